@@ -1,0 +1,12 @@
+pub mod Decoding
+pub mod Fine
+pub mod Arms
+pub mod Places
+pub mod Simulate
+pub mod Rights
+pub mod Trees
+pub mod Calls
+pub mod Demand
+pub mod Chain
+pub mod Builds
+pub mod Agree

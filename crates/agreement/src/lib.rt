@@ -1,0 +1,1 @@
+// agreement: theorems only, over the definitions of book, heap and engine.
