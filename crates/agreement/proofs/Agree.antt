@@ -18,7 +18,7 @@ use Rattle.heap.proofs.Laws.Bound.{first-bound, bytes-bound}
 use Rattle.heap.proofs.Laws.Copies.{Whole, copy-whole}
 use Rattle.engine.specs.Turn.{Turned, goes, splits, value, ended, lost, Ending, failed, misfit, forward, alternatives}
 use Rattle.engine.specs.Plain as Plain
-use Rattle.engine.specs.Plain.{resultOf, Reached, demands, narrows, rewrites, fails, misfits, stuck, walkCall, instances, buildRights, applied, stepAt}
+use Rattle.engine.specs.Plain.{Reached, demands, narrows, rewrites, fails, misfits, stuck, walkCall, instances, buildRights, applied, stepAt}
 use Rattle.engine.specs.Compile.{Program, compile}
 use Rattle.engine.specs.Machine as Machine
 use Rattle.engine.specs.Machine.{Kept, fromStart, withGraph, settle, Stop, Held, finish, turnWithin, turnOn, told, stopped, own, drive, onTop, turn, onStack, onFirst}
@@ -108,13 +108,13 @@ drive-bound m (suc n) (suc n′) (t ∷ N) g l f = go (drive-bound m n n′) (on
     go ih Machine.full e = rw (e, drive)
 
 module _ (book : Book) (c : Comp) where
-  pub plain-none : firstCall (length (c .graph)) (c .graph) (c .value) ≡ none → Plain.turn book c ≡ value (resultOf c)
-  unfolding Plain.turn
-  plain-none e = rw (e, Plain.turn)
+  pub plain-none : firstCall (length (c .graph)) (c .graph) (c .value) ≡ none → Plain.turn book c ≡ value (writeEach (length (c .graph)) (c .graph) (c .value ∷ c .askers))
+  unfolding Plain.turn Plain.turnWithin
+  plain-none e = rw (e, Plain.turnWithin)
 
   pub plain-some : (h : ℕ) → firstCall (length (c .graph)) (c .graph) (c .value) ≡ some h → Plain.turn book c ≡ stepAt (length (c .graph)) book c h
-  unfolding Plain.turn
-  plain-some h e = rw (e, Plain.turn)
+  unfolding Plain.turn Plain.turnWithin
+  plain-some h e = rw (e, Plain.turnWithin)
 
 -- what agreement with the plain reading gives: the step leaves no cycle, and nothing was made for nothing
 abbrev pub Tidy : (Symbol → ℕ → Type 0) → Comp → Stop Graph → Type 0
@@ -305,8 +305,8 @@ module _ (book : Book) (B : FineBook book) where
         by-stop : (y : Turned Comp) (x : Stop Graph) → Plain.turn book C₁ ≡ y → turnOn (λ x. x) own (length g) m g H ≡ stopped x → Both y x → Goal₁
         by-stop y x p q (s, t) = (unfold Machine.turn turnWithin in (rw (p, q, turnWithin) s), λ z u. (let w : stopped x ≡ stopped z = sym q ∙ u in let e : x ≡ z = cc in subst (Tidy (Takes m) C₁) e t))
 
-        by-value : Plain.turn book C₁ ≡ value (resultOf C₁) → turnOn (λ x. x) own (length g) m g H ≡ told (writeEach (length g) g (v ∷ askers)) → Goal₁
-        by-value p q = (unfold Machine.turn turnWithin resultOf in (rw (p, q, turnWithin) same-value), λ z u. (let w : told (writeEach (length g) g (v ∷ askers)) ≡ stopped z = sym q ∙ u in let e : _≡_ {A = ℕ} 0 1 = cc in absurd (omega arith)))
+        by-value : Plain.turn book C₁ ≡ value (writeEach (length g) g (v ∷ askers)) → turnOn (λ x. x) own (length g) m g H ≡ told (writeEach (length g) g (v ∷ askers)) → Goal₁
+        by-value p q = (unfold Machine.turn turnWithin in (rw (p, q, turnWithin) same-value), λ z u. (let w : told (writeEach (length g) g (v ∷ askers)) ≡ stopped z = sym q ∙ u in let e : _≡_ {A = ℕ} 0 1 = cc in absurd (omega arith)))
 
         first : settle g N ≡ [] → (o : Option ℕ) → firstCall (length g) g v ≡ o → turnOn (λ x. x) own (length g) m g H ≡ onFirst (λ x. x) own (length g) m g H o
         first s o e = unfold turnOn onStack in (rw (s, e))

@@ -14,7 +14,7 @@ use Rattle.heap.proofs.Laws.Good.{Good, follow-ends, follow-real}
 use Rattle.heap.proofs.Laws.Forward.{Keeps, Call, look-follow}
 use Rattle.heap.proofs.Laws.First.{found}
 use Rattle.engine.specs.Turn.{value}
-use Rattle.engine.specs.Plain.{Reached, demands, narrows, rewrites, fails, misfits, stuck, walk, walkCall, noFunc, stepAt, turn}
+use Rattle.engine.specs.Plain.{Reached, demands, narrows, rewrites, fails, misfits, stuck, walk, walkCall, noFunc, stepAt, turnWithin, turn}
 use Rattle.engine.specs.Compile.{compile}
 use Rattle.engine.specs.Machine.{settle}
 use Rattle.agreement.proofs.Fine.{Takes}
@@ -100,8 +100,8 @@ module _ (book : Book) (B : FineBook book) (g : Graph) (G : Good (Takes (compile
     C₀ = record { graph = g; value = v; askers = askers }
 
     pub chain-turn : (N : List ℕ) (h : ℕ) → Chain book g v (h ∷ N) → Call g h → turn book C₀ ≡ stepAt (length g) book C₀ (follow g h)
-    unfolding turn
-    chain-turn [] h (i, f) c = rw (f c, turn)
+    unfolding turn turnWithin
+    chain-turn [] h (i, f) c = rw (f c, turnWithin)
     chain-turn (k ∷ N) h (i, f, ck, ch) c =
         let ik = chain-top book g v k N ch in
         let Ek = follow-ends G k ik in

@@ -5,12 +5,9 @@ use mathlib.Core.Path.{_≡_}
 use mathlib.Core.List.{List, [], _∷_}
 use lib.ListN.{length, getD}
 use Rattle.book.specs.Syntax.{Symbol, con, fun, Term, Terms, app, slot, fresh, done, arg, Right, Tree, Trees, split, rule, norule, stop, child, consOf, conArities}
+use Rattle.book.specs.Accepted.{count}
 use Rattle.engine.specs.Compile.{Program, Positions, below}
 use Rattle.engine.specs.Machine.{arityOf}
-
-abbrev pub count : Terms → ℕ
-count done = 0
-count (arg t ts) = suc (count ts)
 
 -- a symbol is known
 abbrev pub Known : Program → Symbol → Type 0

@@ -10,3 +10,5 @@ pub mod Demand
 pub mod Chain
 pub mod Builds
 pub mod Agree
+pub mod Accept
+pub mod Runs

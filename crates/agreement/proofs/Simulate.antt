@@ -17,7 +17,8 @@ use mathlib.Core.Option.{Option, some}
 use mathlib.Core.Bool.{Bool, true, false}
 use lib.Dec.{leb, le→leb}
 use Rattle.agreement.proofs.Decoding.{Writable, decode-encode, drop-encode, emit-append}
-use Rattle.agreement.proofs.Fine.{count, FineTerm, FineTerms}
+use Rattle.book.specs.Accepted.{count}
+use Rattle.agreement.proofs.Fine.{FineTerm, FineTerms}
 
 -- with b instructions or more allowed, the machine stops from s with x
 abbrev pub Halts : Program → ℕ → State Graph → Stop Graph → Type 0

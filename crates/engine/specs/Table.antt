@@ -22,7 +22,7 @@ unfolding
     deref follow look gather thread indexOf outermost first firstCall args sight sweep reach named renamed copy variable write writeEach
     upFrom build buildAll buildRight start
     forward alternatives sizes
-    P.place P.atSplit P.walk P.walkChild P.walkCall P.downTo P.instances P.buildRights P.parted P.replaced P.applied P.stepAt P.resultOf P.turn
+    P.place P.atSplit P.walk P.walkChild P.walkCall P.downTo P.instances P.buildRights P.parted P.replaced P.applied P.stepAt P.turnWithin P.turn
     four fromFour encode emit symbol decode width
     ofTerm ofTerms ofRight ofRights ofRule ofInstances offsets flat below ofTree ofTrees ofFuncs arity compile
     M.at M.put M.arityOf M.members M.homes M.armOf M.jump M.need M.when M.made M.onBranch M.run M.step M.exec M.onTop M.drive M.settle M.onFirst M.onStack M.turnOn M.own M.withGraph M.fromStart M.parted M.finish M.turnWithin M.turn
