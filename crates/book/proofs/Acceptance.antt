@@ -6,16 +6,16 @@ use mathlib.Core.Path.{_≡_, refl, ap, sym, _∙_, subst, subst₂}
 use mathlib.Core.Bool.{Bool, true, false, _&&_}
 use mathlib.Core.List.{List, [], _∷_, _++_, map}
 use mathlib.Core.Option.{none}
-use lib.ListN.{length, getD, replicate, length-append, length-map}
+use lib.ListN.{length, getD, replicate, length-append, length-map, List·getD-map, List·getD-eq-default}
 use lib.Dec.{leb, ltb, eqb}
 use borrow.Author.Tests.{ltb-true, ltb-false, leb-true, eqb-true, eqb-false}
-use Rattle.book.specs.Syntax.{Right, Tree, Func, arity, Book, join, conArities, consOf}
+use Rattle.book.specs.Syntax.{Symbol, con, fun, Right, Tree, norule, Func, arity, Book, conArities, consOf}
 use Rattle.book.specs.declared.Rec.{Rec}
 use Rattle.book.specs.declared.Rec.the-variants.{Of, Bad}
 use Rattle.book.specs.Record.{Got, got, fault, recAt, scan, bookFits, anyFits, funcsFrom, funcArities}
-use Rattle.book.specs.Reading.{after, make, Case, pick, readRight, readTree, readCons, isKind, readTypes, readFuncs, readBook, last, readAlone, readQuestion}
-use Rattle.book.specs.Accepted.{FineTerm, FineRight, FineTree, FineFunc, FineTypes, FineBook}
-use Rattle.book.proofs.Passing.{rec-ends, rec-goes, funcs-end, funcs-take, funcs-pass, scan-ends, scan-faults, scan-refuses, scan-takes, scan-passes, arities, arities-take, Past, Fair, fair, lost, fair-here, fair-got, fair-make, fair-after, fair-pick}
+use Rattle.book.specs.Reading.{after, make, pick, readRight, readCons, isKind, readTypes, readFuncs, readBook, last, readAlone, readQuestion}
+use Rattle.book.specs.Accepted.{arityIn, FineRight, FineTree, FineFunc, FineBook}
+use Rattle.book.proofs.Passing.{rec-ends, rec-goes, funcs-end, funcs-take, funcs-pass, scan-ends, scan-faults, scan-refuses, scan-takes, scan-passes, arities, arities-take, Past, Fair, fair, lost, fair-here, fair-make, fair-after, fair-pick}
 use Rattle.book.proofs.Fairness.{kind-differs, both-hold, right-fair, tree-fair}
 
 -- CONS records: as many as the TYPE says, never beyond the 256th, their arities up to 8
@@ -41,7 +41,7 @@ cons-fair s before (suc n) k = fair-pick s (FineCons before (suc n)) k _ (
 ) (recAt s k) refl
 
 -- TYPEs, after so many types and constructors
-pub record FineAfter (types cons : ℕ) (ts : List (List ℕ)) : Type 0 where
+record FineAfter (types cons : ℕ) (ts : List (List ℕ)) : Type 0 where
   few : types ≤ 64 → types + length ts ≤ 64
   each : (t : ℕ) → t < length ts → (1 ≤ length (consOf ts t)) × (length (consOf ts t) ≤ 32)
   all : cons ≤ 256 → cons + length (conArities ts) ≤ 256
@@ -84,7 +84,7 @@ types-fair s (suc n) types cons k = go (types-fair s n) (isKind 1 (recAt s k)) r
     go ih false q = rw (q, readTypes) (fair-here (no-more types cons))
 
 module _ (s : List ℕ) (types : List (List ℕ)) (funcs : List ℕ) where
-  abbrev pub FineFuncs : List Func → Type 0
+  abbrev FineFuncs : List Func → Type 0
   FineFuncs fs = (f : ℕ) (other : Func) → f < length fs → FineFunc types funcs (getD fs f other)
 
   -- the FUNCs from k on, to the end: the FUNCs of the first pass, each fine
@@ -235,6 +235,24 @@ module _ (s : List ℕ) (book : Book) (e : ℕ) (q : readBook s ≡ got book e) 
     few = rw (book-arities, length-map) at (whole .few);
     funcs = rw book-arities at (whole .funcs);
   }
+
+-- In an accepted book every symbol's arity is at most 8; one that doesn't exist counts as 0 here.
+pub arity-small : (book : Book) → FineBook book → (f : Symbol) → arityIn (conArities (book .types)) (map arity (book .funcs)) f ≤ 8
+unfolding arity
+arity-small book h (con c) = h .types .arities c
+arity-small book h (fun f) = go (ltb f (length (book .funcs))) refl
+  where
+    nothing : Func
+    nothing = record { arity = 0; tree = norule }
+
+    go : (b : Bool) → ltb f (length (book .funcs)) ≡ b → getD (map arity (book .funcs)) f 0 ≤ 8
+    go true t =
+        let e : getD (map arity (book .funcs)) f 0 ≡ getD (book .funcs) f nothing .arity = List·getD-map arity (book .funcs) f nothing in
+        rw e (h .funcs f nothing (ltb-true f (length (book .funcs)) t) .0)
+    go false t =
+        let d = ltb-false f (length (book .funcs)) t in
+        let n = length-map (book .funcs) arity in
+        omega (arith, List·getD-eq-default (map arity (book .funcs)) 0 {n = f} (omega arith))
 
 -- what is known of an accepted question
 abbrev AskedIf : List ℕ → List ℕ → List ℕ → Got Right → Type 0

@@ -1,19 +1,18 @@
 -- What is read is as an accepted book is like: terms, RIGHTs and trees.
 use Prim.Native.Nat.{ℕ, zero, suc, _+_, _≤_, _<_}
-use mathlib.Core.Path.{_≡_, refl, ap, sym, _∙_, subst}
+use mathlib.Core.Path.{_≡_, refl, ap}
 use mathlib.Core.Logic.{_≢_}
 use mathlib.Core.Bool.{Bool, true, false, _&&_, not}
 use mathlib.Core.List.{List, [], _∷_}
 use mathlib.Core.Option.{Option, none, some}
-use lib.ListN.{length, getD}
+use lib.ListN.{length, getD, List·getD-eq-default}
 use lib.Dec.{leb, ltb, eqb, T, T-not, eqb-refl}
 use native.Mathlib.Omega.{arith}
 use borrow.Author.Tests.{ltb-true, ltb-false, leb-true}
-use lib.ListN.{List·getD-eq-default}
-use Rattle.book.specs.Syntax.{con, fun, Term, Terms, app, slot, fresh, done, arg, Right, Tree, Trees, split, rule, norule, stop, child, conArities, consOf}
-use Rattle.book.specs.Record.{Got, got, fault, recAt}
-use Rattle.book.specs.Reading.{Names, Head, applied, alone, slotCase, readHead, firstOf, othersOf, joined, readTerms, theOne, readRight, readRights, Slots, splits, allFit, under, readTrees, readTree}
-use Rattle.book.specs.Accepted.{arityIn, KnownIn, count, records, recordsOf, FineTerm, FineTerms, FineRight, FineRights, FineTree, FineTrees}
+use Rattle.book.specs.Syntax.{Term, Terms, done, arg, Tree, conArities, consOf}
+use Rattle.book.specs.Record.{Got, recAt}
+use Rattle.book.specs.Reading.{Names, Head, slotCase, readHead, firstOf, othersOf, joined, readTerms, theOne, readRight, readRights, Slots, splits, allFit, under, readTrees, readTree}
+use Rattle.book.specs.Accepted.{count, records, recordsOf, FineTerm, FineTerms, FineRight, FineRights, FineTree, FineTrees}
 use Rattle.book.proofs.Passing.{Fair, lost, FairCases, fair-here, fair-make, fair-after, fair-pick}
 
 -- a kind is not a FUNC's

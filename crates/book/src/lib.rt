@@ -47,3 +47,7 @@ pub struct Slots {
     pub n: usize,
     pub depth: [u8; 64],
 }
+
+// A constructor's number and a function's: never the one for the other.
+pub struct ConNo(pub u8);
+pub struct FunNo(pub u8);
