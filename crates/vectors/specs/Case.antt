@@ -6,18 +6,9 @@ use Prim.Native.Nat.{ℕ, zero, suc, _/_, _%_}
 use mathlib.Core.Path.{_≡_}
 use mathlib.Core.List.{List, [], _∷_}
 use Rattle.book.specs.Answers.{Told}
-use Rattle.book.specs.Syntax.{arity}
-use Rattle.book.specs.Record.{bodyOf, bodyByte, recAt, scan, bookFits, anyFits, funcsFrom, funcArities}
-use Rattle.book.specs.Reading.{after, make, pick, slotCase, readHead, firstOf, othersOf, joined, readTerms, theOne, readRight, readRights, allFit, splits, under, readTrees, readTree, readCons, readTypes, readFuncs, readBook, last, readAlone, readQuestion}
-use Rattle.heap.specs.Graph.{deref, follow, look, gather, thread, indexOf, outermost, first, firstCall, args, sight, sweep, reach, named, renamed, copy, variable, write, writeEach}
-use Rattle.heap.specs.Build.{upFrom, build, buildAll, buildRight, start}
-use Rattle.engine.specs.Turn.{forward, alternatives, sizes}
-use Rattle.engine.specs.Plain as P
-use Rattle.engine.specs.Code.{four, fromFour, encode, emit, symbol, decode, width}
-use Rattle.engine.specs.Compile.{ofTerm, ofTerms, ofRight, ofRights, ofRule, ofInstances, offsets, flat, below, ofTree, ofTrees, ofFuncs, compile}
-use Rattle.engine.specs.Machine as M
-use Rattle.engine.specs.Run.{Limits, Lent, Outcome, inRange, workSize, lentFits, numberOf, placeOf, _⊕_, turnsOf, nodesOf, tally, resultRecord, fits, taken, step, runFrom, opening, ask, tells, resultsOf, codeOf, refused, closed, checked, plain, machine}
+use Rattle.engine.specs.Run.{Limits, Lent, Outcome, tells, resultsOf, plain, machine}
 use Rattle.engine.specs.Rows.{asked}
+use Rattle.engine.specs.Opened.{opened}
 
 -- the n lowest bytes of a number, the highest first, before the bytes that follow
 unfoldable pub bytesThen : ℕ → ℕ → List ℕ → List ℕ
@@ -52,18 +43,7 @@ expected (case l b q t results ∷ cs) = gives t results ∷ expected cs
 
 -- what a reading gives at each case
 unfoldable pub outcomes : (Limits → Lent → List ℕ → List ℕ → Outcome) → List Case → List Gives
-unfolding
-    bytesThen bytes
-    bodyOf bodyByte recAt scan bookFits anyFits funcsFrom funcArities
-    after make pick slotCase readHead firstOf othersOf joined readTerms theOne readRight readRights allFit splits under readTrees readTree readCons readTypes readFuncs readBook last readAlone readQuestion
-    deref follow look gather thread indexOf outermost first firstCall args sight sweep reach named renamed copy variable write writeEach
-    upFrom build buildAll buildRight start
-    forward alternatives sizes
-    P.place P.atSplit P.walk P.walkChild P.walkCall P.downTo P.instances P.buildRights P.parted P.replaced P.applied P.stepAt P.resultOf P.turn
-    four fromFour encode emit symbol decode width
-    ofTerm ofTerms ofRight ofRights ofRule ofInstances offsets flat below ofTree ofTrees ofFuncs arity compile
-    M.at M.put M.arityOf M.members M.homes M.armOf M.jump M.need M.when M.made M.onBranch M.run M.step M.exec M.onTop M.drive M.settle M.onFirst M.onStack M.turnOn M.own M.withGraph M.fromStart M.parted M.finish M.turnWithin M.turn
-    inRange workSize lentFits numberOf placeOf _⊕_ turnsOf nodesOf tally resultRecord fits taken step runFrom opening ask tells resultsOf codeOf refused closed checked plain machine
+unfolding opened bytesThen bytes
 outcomes run [] = []
 outcomes run (case l b q t results ∷ cs) = shows (run l (asked l) b q) ∷ outcomes run cs
 
