@@ -1,18 +1,24 @@
 -- Document 01's table, and rows of our own: over both readings of a turn, by computation.
--- Here, in order: the rows; the kept stacks, turn by turn; what lent memory holds afterwards; numbers of four bytes.
+-- Here, in order: the paper's rows; ours; the kept stacks, turn by turn; what lent memory holds afterwards; numbers of four bytes.
 -- A wrong edit of a definition is refused here first.
 -- Assumes nothing.
 use mathlib.Core.Path.{_≡_, refl}
 use mathlib.Core.List.{[], _∷_}
 use Rattle.engine.specs.Code.{four, fromFour}
 use Rattle.engine.specs.Run.{plain, machine}
-use Rattle.engine.specs.Rows.{rows, outcomes, expected, bookB, questionQ, stacksAlong, stacksB, leaves, left}
+use Rattle.engine.specs.Rows.{rows, outcomes, expected, bookB, questionQ}
+use Rattle.engine.specs.Ours.{ours, stacksAlong, stacksB, leaves, left}
 use Rattle.engine.specs.Opened.{opened}
 
--- both readings give what each row says
+-- both readings give what each row of the paper says
 pub table : (outcomes plain rows ≡ expected rows) × (outcomes machine rows ≡ expected rows)
 unfolding opened
 table = (refl, refl)
+
+-- and what each of ours says
+pub more : (outcomes plain ours ≡ expected ours) × (outcomes machine ours ≡ expected ours)
+unfolding opened
+more = (refl, refl)
 
 -- each computation's stack after each turn of B and Q
 pub stacks : stacksAlong 9 bookB questionQ ≡ stacksB
