@@ -1,30 +1,36 @@
--- Document 01's table: one statement, over both readings of a turn, by computation.
+-- Document 01's table, and rows of our own: over both readings of a turn, by computation.
+-- Here, in order: the paper's rows; ours; the kept stacks, turn by turn; what lent memory holds afterwards; numbers of four bytes.
 -- A wrong edit of a definition is refused here first.
 -- Assumes nothing.
 use mathlib.Core.Path.{_≡_, refl}
-use Rattle.book.specs.Syntax.{arity}
-use Rattle.book.specs.Record.{bodyOf, bodyByte, recAt, scan, bookFits, anyFits, funcsFrom, funcArities}
-use Rattle.book.specs.Reading.{after, make, pick, slotCase, readHead, firstOf, othersOf, joined, readTerms, theOne, readRight, readRights, allFit, splits, under, readTrees, readTree, readCons, readTypes, readFuncs, readBook, last, readAlone, readQuestion}
-use Rattle.heap.specs.Graph.{deref, follow, look, gather, thread, indexOf, outermost, first, firstCall, args, sight, sweep, reach, named, renamed, copy, variable, write, writeEach}
-use Rattle.heap.specs.Build.{upFrom, build, buildAll, buildRight, start}
-use Rattle.engine.specs.Turn.{forward, alternatives, sizes}
-use Rattle.engine.specs.Plain as P
-use Rattle.engine.specs.Code.{four, fromFour, encode, emit, symbol, decode, width}
-use Rattle.engine.specs.Compile.{ofTerm, ofTerms, ofRight, ofRights, ofRule, ofInstances, offsets, flat, below, ofTree, ofTrees, ofFuncs, compile}
-use Rattle.engine.specs.Machine as M
-use Rattle.engine.specs.Run.{inRange, workSize, lentFits, numberOf, placeOf, _⊕_, turnsOf, nodesOf, tally, resultRecord, fits, taken, step, runFrom, opening, ask, tells, resultsOf, codeOf, refused, closed, checked, plain, machine}
-use Rattle.engine.specs.Rows.{rows, outcomes, expected}
+use mathlib.Core.List.{[], _∷_}
+use Rattle.engine.specs.Code.{four, fromFour}
+use Rattle.engine.specs.Run.{plain, machine}
+use Rattle.engine.specs.Rows.{rows, outcomes, expected, bookB, questionQ}
+use Rattle.engine.specs.Ours.{ours, stacksAlong, stacksB, leaves, left}
+use Rattle.engine.specs.Opened.{opened}
 
+-- both readings give what each row of the paper says
 pub table : (outcomes plain rows ≡ expected rows) × (outcomes machine rows ≡ expected rows)
-unfolding
-    bodyOf bodyByte recAt scan bookFits anyFits funcsFrom funcArities
-    after make pick slotCase readHead firstOf othersOf joined readTerms theOne readRight readRights allFit splits under readTrees readTree readCons readTypes readFuncs readBook last readAlone readQuestion
-    deref follow look gather thread indexOf outermost first firstCall args sight sweep reach named renamed copy variable write writeEach
-    upFrom build buildAll buildRight start
-    forward alternatives sizes
-    P.place P.atSplit P.walk P.walkChild P.walkCall P.downTo P.instances P.buildRights P.parted P.replaced P.applied P.stepAt P.turnWithin P.turn
-    four fromFour encode emit symbol decode width
-    ofTerm ofTerms ofRight ofRights ofRule ofInstances offsets flat below ofTree ofTrees ofFuncs arity compile
-    M.at M.put M.arityOf M.members M.homes M.armOf M.jump M.need M.when M.made M.onBranch M.run M.step M.exec M.onTop M.drive M.settle M.onFirst M.onStack M.turnOn M.own M.withGraph M.fromStart M.parted M.finish M.turnWithin M.turn
-    inRange workSize lentFits numberOf placeOf _⊕_ turnsOf nodesOf tally resultRecord fits taken step runFrom opening ask tells resultsOf codeOf refused closed checked plain machine
+unfolding opened
 table = (refl, refl)
+
+-- and what each of ours says
+pub more : (outcomes plain ours ≡ expected ours) × (outcomes machine ours ≡ expected ours)
+unfolding opened
+more = (refl, refl)
+
+-- each computation's stack after each turn of B and Q
+pub stacks : stacksAlong 9 bookB questionQ ≡ stacksB
+unfolding opened
+stacks = refl
+
+-- results already written stand; result bytes beyond them are as lent, and so is the rest of the code room; a refusal writes nothing
+pub memory : (leaves plain ≡ left) × (leaves machine ≡ left)
+unfolding opened
+memory = (refl, refl)
+
+-- numbers of several bytes are little-endian
+pub little : (four 0x04030201 ≡ 1 ∷ 2 ∷ 3 ∷ 4 ∷ []) × (fromFour (1 ∷ 2 ∷ 3 ∷ 4 ∷ []) ≡ 0x04030201)
+unfolding opened
+little = (refl, refl)
