@@ -118,7 +118,7 @@ stacksAlong n b q = elim (readBook b) [
   | fault _ _ ↦ []
   | got book _ ↦ elim (readQuestion book q) [
     | fault _ _ ↦ []
-    | got right _ ↦ stacksFrom (step (turn (compile book)) usual) n (opening (turn (compile book)) usual fromStart (start right))
+    | got right _ ↦ stacksFrom (step (turn (compile book)) usual) n (opening fromStart (start right))
   ]
 ]
 
