@@ -12,3 +12,5 @@ pub mod Builds
 pub mod Agree
 pub mod Accept
 pub mod Runs
+pub mod Refusals
+pub mod Moments
