@@ -14,3 +14,4 @@ pub mod Accept
 pub mod Runs
 pub mod Refusals
 pub mod Moments
+pub mod Answers

@@ -1,9 +1,9 @@
 -- The moments of a run, over any reading of a turn.
 -- Here, in order: what a moment holds; the ways in which a step goes on; moments that come of one another; turns, results and the balance of the counts; the balance from bytes.
 -- Assumes nothing.
-use Prim.Native.Nat.{ℕ, zero, suc, _+_, _≤_, _<_}
+use Prim.Native.Nat.{ℕ, zero, suc, _+_, _<_}
 use native.Mathlib.Omega.{arith}
-use mathlib.Core.Path.{_≡_, refl, sym, ap, _∙_, subst}
+use mathlib.Core.Path.{_≡_, refl, sym, _∙_}
 use mathlib.Core.Bool.{Bool, true, false}
 use mathlib.Core.List.{List, [], _∷_, _++_, append-nil, append-assoc}
 use lib.Dec.{leb, ltb, ltb→lt}
@@ -42,64 +42,64 @@ module _ {C : Type 0} where
   Balanced (moment pool (counts t n b s v f i) out) = b ≡ length pool + s + v + f + i
 
 module _ {C : Type 0} (turn : C → Turned C) (l : Limits) where
-  -- how a step goes on: the front goes on, becomes alternatives, has a value or ends, and what that takes fits
-  pub data Took : Moment C → Moment C → Type 0 where
+  -- what a step comes to: it ends the run, for a reason; or the front goes on, becomes alternatives, has a value or ends, and what that takes fits
+  pub data Took : Moment C → Next C → Type 0 where
+    none-waits : {k : Counts} {out : List ℕ} → Took (moment [] k out) (ends emptied)
+    no-turn : {c : C} {pool : List C} {k : Counts} {out : List ℕ} → Took (moment (c ∷ pool) k out) (ends spent)
+    no-nodes : {c : C} {pool : List C} {k : Counts} {out : List ℕ} → Took (moment (c ∷ pool) k out) (ends noNodes)
+    no-places : {c : C} {pool : List C} {k : Counts} {out : List ℕ} → Took (moment (c ∷ pool) k out) (ends noPlaces)
+    no-room : {c : C} {pool : List C} {k : Counts} {out : List ℕ} → Took (moment (c ∷ pool) k out) (ends noRoom)
+    no-step : {c : C} {pool : List C} {k : Counts} {out : List ℕ} → turn c ≡ lost → Took (moment (c ∷ pool) k out) (ends never)
     went : {c d : C} {pool : List C} {k : Counts} {out : List ℕ} {n : ℕ} → turnsOf k < l .budget → turn c ≡ goes d n → fits l k n ≡ true
-        → Took (moment (c ∷ pool) k out) (moment (pool ++ d ∷ []) (k ⊕ counts 1 n 0 0 0 0 0) out)
+        → Took (moment (c ∷ pool) k out) (next (moment (pool ++ d ∷ []) (k ⊕ counts 1 n 0 0 0 0 0) out))
     branched : {c : C} {ds pool : List C} {k : Counts} {out : List ℕ} {n : ℕ} → turnsOf k < l .budget → turn c ≡ splits ds n → fits l k n ≡ true → leb (length pool + length ds) (l .pool) ≡ true
-        → Took (moment (c ∷ pool) k out) (moment (pool ++ ds) (k ⊕ counts 1 n (length ds) 1 0 0 0) out)
+        → Took (moment (c ∷ pool) k out) (next (moment (pool ++ ds) (k ⊕ counts 1 n (length ds) 1 0 0 0) out))
     valued : {c : C} {pool : List C} {k : Counts} {out b : List ℕ} → turnsOf k < l .budget → turn c ≡ value b → leb (length (out ++ resultRecord (suc (turnsOf k)) b)) (l .results) ≡ true
-        → Took (moment (c ∷ pool) k out) (moment pool (k ⊕ counts 1 0 0 0 1 0 0) (out ++ resultRecord (suc (turnsOf k)) b))
+        → Took (moment (c ∷ pool) k out) (next (moment pool (k ⊕ counts 1 0 0 0 1 0 0) (out ++ resultRecord (suc (turnsOf k)) b)))
     finished : {c : C} {pool : List C} {k : Counts} {out : List ℕ} {e : Ending} → turnsOf k < l .budget → turn c ≡ ended e
-        → Took (moment (c ∷ pool) k out) (moment pool (k ⊕ tally e) out)
+        → Took (moment (c ∷ pool) k out) (next (moment pool (k ⊕ tally e) out))
 
-  step-took : (x y : Moment C) → step turn l x ≡ next y → Took x y
+  pub step-took : (x : Moment C) → Took x (step turn l x)
   unfolding step taken
-  step-took (moment [] k out) y e = let z : _≡_ {A = ℕ} 0 1 = cc in absurd (omega arith)
-  step-took (moment (c ∷ pool) k out) y e = on-budget (ltb (turnsOf k) (l .budget)) refl
+  step-took (moment [] k out) = none-waits
+  step-took (moment (c ∷ pool) k out) = on-budget (ltb (turnsOf k) (l .budget)) refl
     where
-      X : Moment C
-      X = moment (c ∷ pool) k out
+      Goal : Type 0
+      Goal = Took (moment (c ∷ pool) k out) (step turn l (moment (c ∷ pool) k out))
 
-      same : {y′ : Moment C} → Took X y′ → step turn l X ≡ next y′ → Took X y
-      same {y′} t u = let v : y′ ≡ y = cc in subst (λ (z : Moment C). Took X z) v t
-
-      none : (a : Answer) → step turn l X ≡ ends a → Took X y
-      none a u = let z : _≡_ {A = ℕ} 0 1 = cc in absurd (omega arith)
-
-      on-turn : (x : Turned C) → turn c ≡ x → ltb (turnsOf k) (l .budget) ≡ true → turnsOf k < l .budget → Took X y
+      on-turn : (x : Turned C) → turn c ≡ x → ltb (turnsOf k) (l .budget) ≡ true → turnsOf k < l .budget → Goal
       on-turn (goes d n) u t p = go (fits l k n) refl
         where
-          go : (b : Bool) → fits l k n ≡ b → Took X y
-          go true f = same (went p u f) (rw (t, u, f, step, taken))
-          go false f = none noNodes (rw (t, u, f, step, taken))
+          go : (b : Bool) → fits l k n ≡ b → Goal
+          go true f = rw (t, u, f, step, taken) (went p u f)
+          go false f = rw (t, u, f, step, taken) no-nodes
       on-turn (splits ds n) u t p = go (fits l k n) (leb (length pool + length ds) (l .pool)) refl refl
         where
-          go : (b b′ : Bool) → fits l k n ≡ b → leb (length pool + length ds) (l .pool) ≡ b′ → Took X y
-          go true true f f′ = same (branched p u f f′) (rw (t, u, f, f′, step, taken))
-          go true false f f′ = none noPlaces (rw (t, u, f, f′, step, taken))
-          go false b f f′ = none noNodes (rw (t, u, f, step, taken))
+          go : (b b′ : Bool) → fits l k n ≡ b → leb (length pool + length ds) (l .pool) ≡ b′ → Goal
+          go true true f f′ = rw (t, u, f, f′, step, taken) (branched p u f f′)
+          go true false f f′ = rw (t, u, f, f′, step, taken) no-places
+          go false b f f′ = rw (t, u, f, step, taken) no-nodes
       on-turn (value bs) u t p = go (leb (length (out ++ resultRecord (suc (turnsOf k)) bs)) (l .results)) refl
         where
-          go : (b : Bool) → leb (length (out ++ resultRecord (suc (turnsOf k)) bs)) (l .results) ≡ b → Took X y
-          go true f = same (valued p u f) (rw (t, u, f, step, taken))
-          go false f = none noRoom (rw (t, u, f, step, taken))
-      on-turn (ended e) u t p = same (finished p u) (rw (t, u, step, taken))
-      on-turn lost u t p = none never (rw (t, u, step, taken))
+          go : (b : Bool) → leb (length (out ++ resultRecord (suc (turnsOf k)) bs)) (l .results) ≡ b → Goal
+          go true f = rw (t, u, f, step, taken) (valued p u f)
+          go false f = rw (t, u, f, step, taken) no-room
+      on-turn (ended e) u t p = rw (t, u, step, taken) (finished p u)
+      on-turn lost u t p = rw (t, u, step, taken) (no-step u)
 
-      on-budget : (b : Bool) → ltb (turnsOf k) (l .budget) ≡ b → Took X y
+      on-budget : (b : Bool) → ltb (turnsOf k) (l .budget) ≡ b → Goal
       on-budget true t = on-turn (turn c) refl t (ltb→lt (turnsOf k) (l .budget) (rw t tt))
-      on-budget false t = none spent (rw (t, step))
+      on-budget false t = rw (t, step) no-turn
 
   -- A step that goes on had turns left, and takes one.
   pub step-turns : (x y : Moment C) → step turn l x ≡ next y → (turnsIn x < l .budget) × (turnsIn y ≡ suc (turnsIn x))
   unfolding turnsOf _⊕_ tally
-  step-turns x y e = go (step-took x y e)
+  step-turns x y e = go (rw e at (step-took x))
     where
       plus : (k : Counts) (n b s v f i : ℕ) → turnsOf (k ⊕ counts 1 n b s v f i) ≡ suc (turnsOf k)
       plus (counts t n b s v f i) n′ b′ s′ v′ f′ i′ = omega arith
 
-      go : {x y : Moment C} → Took x y → (turnsIn x < l .budget) × (turnsIn y ≡ suc (turnsIn x))
+      go : {x y : Moment C} → Took x (next y) → (turnsIn x < l .budget) × (turnsIn y ≡ suc (turnsIn x))
       go (went {k = k} {n = n} p u f) = (p, plus k n 0 0 0 0 0)
       go (branched {ds = ds} {k = k} {n = n} p u f f′) = (p, plus k n (length ds) 1 0 0 0)
       go (valued {k = k} p u f) = (p, plus k 0 0 0 1 0 0)
@@ -108,9 +108,9 @@ module _ {C : Type 0} (turn : C → Turned C) (l : Limits) where
 
   -- A step leaves the results written as they are, and writes behind them.
   pub step-results : (x y : Moment C) → step turn l x ≡ next y → (more : List ℕ) × (resultsIn y ≡ resultsIn x ++ more)
-  step-results x y e = go (step-took x y e)
+  step-results x y e = go (rw e at (step-took x))
     where
-      go : {x y : Moment C} → Took x y → (more : List ℕ) × (resultsIn y ≡ resultsIn x ++ more)
+      go : {x y : Moment C} → Took x (next y) → (more : List ℕ) × (resultsIn y ≡ resultsIn x ++ more)
       go (went {out = out} p u f) = ([], sym (append-nil out))
       go (branched {out = out} p u f f′) = ([], sym (append-nil out))
       go (valued {k = k} {b = b} p u f) = (resultRecord (suc (turnsOf k)) b, refl)
@@ -119,9 +119,9 @@ module _ {C : Type 0} (turn : C → Turned C) (l : Limits) where
   -- A step keeps the balance.
   pub step-balanced : (x y : Moment C) → step turn l x ≡ next y → Balanced x → Balanced y
   unfolding _⊕_ tally
-  step-balanced x y e = go (step-took x y e)
+  step-balanced x y e = go (rw e at (step-took x))
     where
-      go : {x y : Moment C} → Took x y → Balanced x → Balanced y
+      go : {x y : Moment C} → Took x (next y) → Balanced x → Balanced y
       go (went {d = d} {pool = pool} {k = counts t n b s v f i} p u w) h = rw (length-append pool (d ∷ [])) (omega arith)
       go (branched {ds = ds} {pool = pool} {k = counts t n b s v f i} p u w w′) h = rw (length-append pool ds) (omega arith)
       go (valued {k = counts t n b s v f i} p u w) h = omega arith
