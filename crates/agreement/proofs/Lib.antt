@@ -15,3 +15,5 @@ pub mod Runs
 pub mod Refusals
 pub mod Moments
 pub mod Answers
+pub mod Stand
+pub mod Checks
