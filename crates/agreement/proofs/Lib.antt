@@ -12,3 +12,8 @@ pub mod Builds
 pub mod Agree
 pub mod Accept
 pub mod Runs
+pub mod Refusals
+pub mod Moments
+pub mod Answers
+pub mod Stand
+pub mod Checks
