@@ -17,3 +17,5 @@ pub mod Moments
 pub mod Answers
 pub mod Stand
 pub mod Checks
+pub mod Bounds
+pub mod Enough
