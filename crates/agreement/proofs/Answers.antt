@@ -3,7 +3,7 @@
 -- Assumes nothing.
 use Prim.Native.Nat.{ℕ, zero, suc, _+_, _≤_, _<_}
 use native.Mathlib.Omega.{arith}
-use mathlib.Core.Path.{_≡_, refl}
+use mathlib.Core.Path.{_≡_, refl, ap}
 use mathlib.Core.Bool.{Bool, true, false}
 use mathlib.Core.List.{List, [], _∷_, List·Memᴰ}
 use lib.ListN.{length, getD}
@@ -25,7 +25,7 @@ use Rattle.agreement.proofs.Accept.{question-of}
 use Rattle.agreement.proofs.Agree.{Same, same-goes, same-splits, same-value, same-ended}
 use Rattle.agreement.proofs.Runs.{Alike, alike, AlikeNext, both-go, same-turn, step-alike, begun, fine-book, agree}
 use Rattle.agreement.proofs.Refusals.{Accepted, Case, at-limits, at-book, at-question, at-code, runs, case, plain-asks}
-use Rattle.agreement.proofs.Moments.{waiting, turnsIn, Took, none-waits, no-turn, no-nodes, no-places, no-room, no-step, step-took, step-turns, Comes, here, later, run-comes}
+use Rattle.agreement.proofs.Moments.{waiting, turnsIn, Took, none-waits, no-turn, no-nodes, no-places, no-room, no-step, step-took, step-turns, Comes, here, later, run-comes, Sums, plain-sums}
 
 module _ {C : Type 0} (turn : C → Turned C) (l : Limits) where
   -- a bound that the budget leaves unused: the run ends as a step says
@@ -159,6 +159,10 @@ module _ {l : Limits} {m : Lent} {b q : List ℕ} {book : Book} {r : Right} (A :
   -- A run that is not refused answers 0 to 4, and 0 only where no computation waits.
   pub accepted-ended : Ended (Plain.turn book) l (ask (Plain.turn book) l (λ c. c) r .1) (answerOf (plain l m b q))
   accepted-ended = rw (plain-asks A, closed-answer) (asked-ended book book-of l r asked-of)
+
+  -- With answer 0 every computation begun was split, had a value, failed or was a misfit.
+  pub emptied-sums : answerOf (plain l m b q) ≡ emptied → Sums 0 (plain l m b q)
+  emptied-sums e = rw (ap length (accepted-ended .none e)) at (plain-sums A)
 
 member : (i : ℕ) → i < 9 → List·Memᴰ (getD answerNumbers i 0) answerNumbers
 member i p = mem-at answerNumbers i p
