@@ -7,13 +7,12 @@ use native.Mathlib.Omega.{arith}
 use mathlib.Core.Path.{_≡_, refl, sym, _∙_}
 use mathlib.Core.Logic.{_⊎_, inl, inr}
 use mathlib.Core.Option.{none}
-use mathlib.Core.List.{List, [], _∷_, map, List·Memᴰ, List·Memᴰ·head, List·Memᴰ·tail, List·Memᴰ·not-nil, List·Memᴰ·cases-cons}
+use mathlib.Core.List.{List, [], _∷_, map, List·Memᴰ, List·Memᴰ·not-nil, List·Memᴰ·cases-cons}
 use lib.ListN.{length, getD, drop}
-use Rattle.book.specs.Syntax.{Symbol, fun, Right, Book}
+use Rattle.book.specs.Syntax.{fun, Right, Book}
 use Rattle.book.specs.Answers.{Counts}
-use Rattle.heap.specs.Graph.{Graph, cell, look, Comp, copy}
+use Rattle.heap.specs.Graph.{Graph, cell, look, Comp}
 use Rattle.heap.specs.Build.{start}
-use Rattle.heap.proofs.Laws.Copies.{Whole}
 use Rattle.engine.specs.Turn.{Turned, splits, value, lost, forward, alternatives}
 use Rattle.engine.specs.Plain as Plain
 use Rattle.engine.specs.Compile.{Program, compile}
@@ -30,24 +29,13 @@ use Rattle.agreement.proofs.Answers.{comes-beside, comes-back, same-sur
 use Rattle.agreement.proofs.Bounds as Bounds
 use Rattle.agreement.proofs.Bounds.{EnoughIn, good-enough}
 
--- a copy of a computation whose graph has nodes enough
-pub record Copied (d : Comp) : Type 0 where
-  pub source : Comp
-  pub is : d ≡ copy source
-  pub enough : EnoughIn (source .graph)
-
-alternatives-copied : {K : Symbol → ℕ → Type 0} (c : Comp) (h : ℕ) (ks : List ℕ) → ((r : ℕ) → List·Memᴰ r ks → Whole K (record { graph = forward (c .graph) h r; value = c .value; askers = c .askers }))
-    → (d : Comp) → List·Memᴰ d (alternatives c h ks) → Copied d
-unfolding alternatives
-alternatives-copied c h [] W d u = absurd (List·Memᴰ·not-nil u)
-alternatives-copied c h (k ∷ ks) W d u = go (alternatives-copied c h ks (λ r v. W r (List·Memᴰ·tail v)) d) (List·Memᴰ·cases-cons u)
-  where
-    c₁ : Comp
-    c₁ = record { graph = forward (c .graph) h k; value = c .value; askers = c .askers }
-
-    go : (List·Memᴰ d (alternatives c h ks) → Copied d) → (d ≡ copy c₁) ⊎ List·Memᴰ d (alternatives c h ks) → Copied d
-    go ih (inl e) = record { source = c₁; is = e; enough = good-enough (W k (List·Memᴰ·head refl) .good) }
-    go ih (inr v) = ih v
+-- what alternatives are copied from: graphs that have nodes enough
+pub record Copied (c : Comp) (ds : List Comp) : Type 0 where
+  pub graph : Graph
+  pub node : ℕ
+  pub terms : List ℕ
+  pub are : ds ≡ alternatives (record { graph = graph; value = c .value; askers = c .askers }) node terms
+  pub enough : (r : ℕ) → List·Memᴰ r terms → EnoughIn (forward graph node r)
 
 module _ (book : Book) where
   abbrev m : Program
@@ -58,12 +46,13 @@ module _ (book : Book) where
     pub graph : EnoughIn (c .graph)
     pub turns : (n : ℕ) → length (c .graph) ≤ n → Plain.turnWithin n book c ≡ Plain.turn book c
     pub found : Plain.turn book c ≡ lost → ⊥
-    pub copied : (ds : List Comp) (n : ℕ) → Plain.turn book c ≡ splits ds n → (d : Comp) → List·Memᴰ d ds → Copied d
+    pub copied : (ds : List Comp) (n : ℕ) → Plain.turn book c ≡ splits ds n → Copied c ds
 
-  -- and of the machine's computations: in the graph and for a turn; for the code of every call, however the stack below it is
+  -- and of the machine's computations: in the graph and for a turn; for the graphs that are copied; for the code of every call, however the stack below it is
   pub record MachineEnough (k : Kept) : Type 0 where
     pub plainly : Enough (k .comp)
     pub turns : (n : ℕ) → length (k .comp .graph) ≤ n → Machine.turnWithin n m k ≡ Machine.turn m k
+    pub parts : (h : ℕ) (ks : List ℕ) (g : Graph) → turnOn (λ x. x) own (length (k .comp .graph)) m (k .comp .graph) (heldOf k) ≡ stopped (Machine.parts h ks g) → (r : ℕ) → List·Memᴰ r ks → EnoughIn (forward g h r)
     pub codes : (n : ℕ) → length (m .code) ≤ n → (h f : ℕ) (hs N : List ℕ) → h < length (k .comp .graph) → look (k .comp .graph) h ≡ cell (fun f) hs
         → let s = st (drop (getD (m .starts) f 0) (m .code)) (h ∷ N) none [] [] (k .comp .graph) in exec (λ x. x) own n m s ≡ exec (λ x. x) own (length (m .code)) m s
 
@@ -82,25 +71,25 @@ module _ (book : Book) where
       abbrev K : Kept
       K = record { comp = c; stack = N }
 
-      copies : (ds : List Comp) (n : ℕ) → Plain.turn book c ≡ splits ds n → (d : Comp) → List·Memᴰ d ds → Copied d
+      copies : (ds : List Comp) (n : ℕ) → Plain.turn book c ≡ splits ds n → Copied c ds
       unfolding finish Machine.parted withGraph
-      copies ds n e d u = on-told (turnOn (λ x. x) own (length (c .graph)) m (c .graph) (heldOf K)) refl (same-pools ds n (Machine.turn m K) (rw e at (T .0)))
+      copies ds n e = on-told (turnOn (λ x. x) own (length (c .graph)) m (c .graph) (heldOf K)) refl (same-pools ds n (Machine.turn m K) (rw e at (T .0)))
         where
           T : Same book B (Plain.turn book c) (Machine.turn m K) × ((x : Stop Graph) → turnOn (λ x. x) own (length (c .graph)) m (c .graph) (heldOf K) ≡ stopped x → Tidy (Takes m) c x)
           T = turns book B (c .graph) (c .value) (c .askers) (S .whole) N (S .chain)
 
-          on-stop : (x : Stop Graph) (ks : List Kept) → finish c x ≡ splits ks n → Pools book B ds ks → Tidy (Takes m) c x → Copied d
+          on-stop : (x : Stop Graph) (ks : List Kept) → finish c x ≡ splits ks n → Pools book B ds ks → Tidy (Takes m) c x → Copied c ds
           on-stop (Machine.demand N′ g) ks f p t = let z : _≡_ {A = ℕ} 0 1 = cc in absurd (omega arith)
           on-stop (Machine.becomes h r N′ g) ks f p t = let z : _≡_ {A = ℕ} 0 1 = cc in absurd (omega arith)
           on-stop (Machine.parts h rs g) ks f p t =
               let z : ks ≡ map fromStart (alternatives (withGraph c g) h rs) = cc in
-              alternatives-copied (withGraph c g) h rs t d (rw (pools-same ds (alternatives (withGraph c g) h rs) (rw z at p)) at u)
+              record { graph = g; node = h; terms = rs; are = pools-same ds _ (rw z at p); enough = λ r u. good-enough (t r u .good) }
           on-stop (Machine.fails g) ks f p t = let z : _≡_ {A = ℕ} 0 1 = cc in absurd (omega arith)
           on-stop (Machine.misfits g) ks f p t = let z : _≡_ {A = ℕ} 0 1 = cc in absurd (omega arith)
           on-stop Machine.broken ks f p t = let z : _≡_ {A = ℕ} 0 1 = cc in absurd (omega arith)
           on-stop Machine.full ks f p t = let z : _≡_ {A = ℕ} 0 1 = cc in absurd (omega arith)
 
-          on-told : (x : Told Graph) → turnOn (λ x. x) own (length (c .graph)) m (c .graph) (heldOf K) ≡ x → (ks : List Kept) × (Machine.turn m K ≡ splits ks n) × Pools book B ds ks → Copied d
+          on-told : (x : Told Graph) → turnOn (λ x. x) own (length (c .graph)) m (c .graph) (heldOf K) ≡ x → (ks : List Kept) × (Machine.turn m K ≡ splits ks n) × Pools book B ds ks → Copied c ds
           on-told (told bs) f (ks, g, p) = let w : Machine.turn m K ≡ value bs = (unfold Machine.turn Machine.turnWithin in (rw (f, Machine.turnWithin))) in let z : _≡_ {A = ℕ} 0 1 = cc in absurd (omega arith)
           on-told (stopped x) f (ks, g, p) = let w : Machine.turn m K ≡ finish c x = (unfold Machine.turn Machine.turnWithin in (rw (f, Machine.turnWithin))) in on-stop x ks (sym w ∙ g) p (T .1 x f)
 
@@ -116,6 +105,7 @@ module _ (book : Book) where
       machine-sound-enough = record {
         plainly = sound-enough;
         turns = λ n p. turn-bound book B (c .graph) (c .value) (c .askers) (S .whole) n p N (S .chain);
+        parts = λ h ks g e r u. good-enough (turns book B (c .graph) (c .value) (c .askers) (S .whole) N (S .chain) .1 (Machine.parts h ks g) e r u .good);
         codes = λ n p h f hs M i e. code-runs book B (c .graph) (S .whole .good) n p h f hs M i e ∙ sym (code-runs book B (c .graph) (S .whole .good) (length (m .code)) (omega arith) h f hs M i e);
       }
 
