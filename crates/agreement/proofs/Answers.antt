@@ -3,7 +3,7 @@
 -- Assumes nothing.
 use Prim.Native.Nat.{ℕ, zero, suc, _+_, _≤_, _<_}
 use native.Mathlib.Omega.{arith}
-use mathlib.Core.Path.{_≡_, refl}
+use mathlib.Core.Path.{_≡_, refl, ap}
 use mathlib.Core.Bool.{Bool, true, false}
 use mathlib.Core.List.{List, [], _∷_, List·Memᴰ}
 use lib.ListN.{length, getD}
@@ -25,7 +25,7 @@ use Rattle.agreement.proofs.Accept.{question-of}
 use Rattle.agreement.proofs.Agree.{Same, same-goes, same-splits, same-value, same-ended}
 use Rattle.agreement.proofs.Runs.{Alike, alike, AlikeNext, both-go, same-turn, step-alike, begun, fine-book, agree}
 use Rattle.agreement.proofs.Refusals.{Accepted, Case, at-limits, at-book, at-question, at-code, runs, case, plain-asks}
-use Rattle.agreement.proofs.Moments.{waiting, turnsIn, Took, none-waits, no-turn, no-nodes, no-places, no-room, no-step, step-took, step-turns, Comes, here, later, run-comes}
+use Rattle.agreement.proofs.Moments.{waiting, turnsIn, Took, none-waits, no-turn, no-nodes, no-places, no-room, no-step, step-took, step-turns, Comes, here, later, run-comes, Sums, plain-sums}
 
 module _ {C : Type 0} (turn : C → Turned C) (l : Limits) where
   -- a bound that the budget leaves unused: the run ends as a step says
@@ -97,6 +97,14 @@ module _ {C : Type 0} (turn : C → Turned C) (l : Limits) where
           rw (t, ask) (step-ended _ _ (s _ (run-comes turn l (suc (l .budget)) m₀ here)) (run-ends (suc (l .budget)) m₀ (omega arith) (omega arith)))
       go false t = rw (t, ask) (record { low = omega arith; none = λ v. refl })
 
+module _ (book : Book) (B : FineBook book) where
+  -- no turn is lost
+  pub same-sure : (x : Turned Comp) (y : Turned Kept) → Same book B x y → x ≡ lost → ⊥
+  same-sure (goes c n) (goes k n′) (same-goes q s) e = let z : _≡_ {A = ℕ} 0 1 = cc in omega arith
+  same-sure (splits cs n) (splits ks n′) (same-splits q) e = let z : _≡_ {A = ℕ} 0 1 = cc in omega arith
+  same-sure (value b) (value b′) same-value e = let z : _≡_ {A = ℕ} 0 1 = cc in omega arith
+  same-sure (ended u) (ended u′) same-ended e = let z : _≡_ {A = ℕ} 0 1 = cc in omega arith
+
 module _ (book : Book) (B : FineBook book) (l : Limits) where
   abbrev m : Program
   m = compile book
@@ -123,16 +131,10 @@ module _ (book : Book) (B : FineBook book) (l : Limits) where
           at : (z : Next Comp) → step (Plain.turn book) l x ≡ z → AlikeNext book B z (next y′) → (x : Moment Comp) × Comes (Plain.turn book) l x₀ x × Alike book B x y′
           at (next x′) f (both-go a′) = (x′, later d f, a′)
 
-  same-sure : (x : Turned Comp) (y : Turned Kept) → Same book B x y → x ≡ lost → ⊥
-  same-sure (goes c n) (goes k n′) (same-goes q s) e = let z : _≡_ {A = ℕ} 0 1 = cc in omega arith
-  same-sure (splits cs n) (splits ks n′) (same-splits q) e = let z : _≡_ {A = ℕ} 0 1 = cc in omega arith
-  same-sure (value b) (value b′) same-value e = let z : _≡_ {A = ℕ} 0 1 = cc in omega arith
-  same-sure (ended u) (ended u′) same-ended e = let z : _≡_ {A = ℕ} 0 1 = cc in omega arith
-
   alike-sure : (x : Moment Comp) (y : Moment Kept) → Alike book B x y → Sure (Plain.turn book) l x
   alike-sure (moment [] k out) (moment pool′ k′ out′) (alike p) = tt
   alike-sure (moment (c ∷ pool) k out) (moment [] k′ out′) (alike p) = absurd p
-  alike-sure (moment (c ∷ pool) k out) (moment (c′ ∷ pool′) k′ out′) (alike (e, s, p)) = same-sure _ _ (same-turn book B c c′ e s)
+  alike-sure (moment (c ∷ pool) k out) (moment (c′ ∷ pool′) k′ out′) (alike (e, s, p)) = same-sure book B _ _ (same-turn book B c c′ e s)
 
   asked-ended : (r : Right) → FineTerm m 0 (r .vars) (r .term) → Ended (Plain.turn book) l (ask (Plain.turn book) l (λ c. c) r .1) (ask (Plain.turn book) l (λ c. c) r .0)
   asked-ended r f = ask-ended (Plain.turn book) l (λ c. c) r (λ x c. (let (y, d, a) = comes-beside (begun book B r f) c in alike-sure x y a))
@@ -157,6 +159,10 @@ module _ {l : Limits} {m : Lent} {b q : List ℕ} {book : Book} {r : Right} (A :
   -- A run that is not refused answers 0 to 4, and 0 only where no computation waits.
   pub accepted-ended : Ended (Plain.turn book) l (ask (Plain.turn book) l (λ c. c) r .1) (answerOf (plain l m b q))
   accepted-ended = rw (plain-asks A, closed-answer) (asked-ended book book-of l r asked-of)
+
+  -- With answer 0 every computation begun was split, had a value, failed or was a misfit.
+  pub emptied-sums : answerOf (plain l m b q) ≡ emptied → Sums 0 (plain l m b q)
+  emptied-sums e = rw (ap length (accepted-ended .none e)) at (plain-sums A)
 
 member : (i : ℕ) → i < 9 → List·Memᴰ (getD answerNumbers i 0) answerNumbers
 member i p = mem-at answerNumbers i p

@@ -92,15 +92,19 @@ module _ (book : Book) (B : FineBook book) (g : Graph) (G : Good (Takes (compile
   fuel : (at₀ : ℕ) (is : List Instr) → At (compile book .code) at₀ (emit is) → length is ≤ length (compile book .code)
   fuel at₀ is A = let h = A .fits in let k = emit-length is in omega arith
 
-  -- the code of the call on top of the stack ends as the walk of its tree
-  pub call-runs : (h f : ℕ) (hs N : List ℕ) → h < length g → look g h ≡ cell (fun f) hs → onTop (λ x. x) own (compile book) (look g h) (h ∷ N) g ≡ stopOf (compile book) g h N (walkCall book g h)
+  -- the code of a call ends as the walk of its tree, with every bound from the code's length on
+  pub code-runs : (n : ℕ) → length (compile book .code) ≤ n → (h f : ℕ) (hs N : List ℕ) → h < length g → look g h ≡ cell (fun f) hs
+      → exec (λ x. x) own n (compile book) (st (drop (getD (compile book .starts) f 0) (compile book .code)) (h ∷ N) none [] [] g) ≡ stopOf (compile book) g h N (walkCall book g h)
   unfolding compile
-  call-runs h f hs N i e =
+  code-runs n q h f hs N i e =
       let p = known-call h f hs e in
       let t = getD (book .funcs) f noFunc .tree in
       let pos = argPositions (getD (book .funcs) f noFunc .arity) in
       let o = getD (compile book .starts) f 0 in
       let A = code-at f p in
-      rw (walkCall-fun book g h f hs e)
-      (top-fun (compile book) g (h ∷ N) (look g h) f hs e
-      ∙ tree-runs (compile book) g G h N (B .small) t pos o A (B .trees f p) hs (sees-call h f hs N i e) none [] (length (compile book .code)) (fuel o (ofTree (book .types) t pos o) A))
+      let b = fuel o (ofTree (book .types) t pos o) A in
+      rw (walkCall-fun book g h f hs e) (tree-runs (compile book) g G h N (B .small) t pos o A (B .trees f p) hs (sees-call h f hs N i e) none [] n (omega arith))
+
+  -- and so on top of the stack
+  pub call-runs : (h f : ℕ) (hs N : List ℕ) → h < length g → look g h ≡ cell (fun f) hs → onTop (λ x. x) own (compile book) (look g h) (h ∷ N) g ≡ stopOf (compile book) g h N (walkCall book g h)
+  call-runs h f hs N i e = top-fun (compile book) g (h ∷ N) (look g h) f hs e ∙ code-runs (length (compile book .code)) (omega arith) h f hs N i e

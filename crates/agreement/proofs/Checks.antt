@@ -52,9 +52,10 @@ module _ (l : Limits) (m : Lent) (ok : (inRange l && lentFits l m) ≡ true) (b 
       go (at-code book x r d u v e) = inl (rw (u, v), rw e (λ y. omega arith), rw e (λ y. omega arith))
       go (runs book r A) = let a = accepted-ended A .low in inl (rw (A .reads, A .asks), (λ y. omega arith), λ y. omega arith)
 
-  -- And so it is with the machine's run.
+  -- The book check says of the machine's run what it says of the plain one.
   pub machine-book-checks : BookAgrees (checkBook b) (machine l m b q)
   machine-book-checks = rw (agree l m b q) book-checks
 
+  -- And so does the question check.
   pub machine-question-checks : QuestionAgrees (checkQuestion b q) (machine l m b q)
   machine-question-checks = rw (agree l m b q) question-checks

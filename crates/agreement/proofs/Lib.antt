@@ -11,9 +11,11 @@ pub mod Chain
 pub mod Builds
 pub mod Agree
 pub mod Accept
-pub mod Runs
 pub mod Refusals
+pub mod Runs
 pub mod Moments
 pub mod Answers
 pub mod Stand
 pub mod Checks
+pub mod Bounds
+pub mod Enough

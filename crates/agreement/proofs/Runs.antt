@@ -1,7 +1,7 @@
 -- The runs of the two readings are equal: demand 3.
 -- Here, in order: pools side by side; what comes of a moment; a question asked; the refusals; `agree`.
 -- Assumes nothing.
-use Prim.Native.Nat.{ℕ, zero, suc, _+_, _≤_, _<_, _^_}
+use Prim.Native.Nat.{ℕ, zero, suc, _+_, _≤_}
 use native.Mathlib.Nat.{not-suc-le-zero}
 use native.Mathlib.Omega.{arith}
 use mathlib.Core.Path.{_≡_, refl, sym, ap, _∙_, subst}
@@ -11,25 +11,26 @@ use lib.Dec.{leb, ltb}
 use lib.ListN.{length, replicate, length-append, length-replicate}
 use borrow.Author.Tests.{leb-true}
 use Rattle.book.specs.Syntax.{Right, Book}
-use Rattle.book.specs.Record.{Got, got, fault}
-use Rattle.book.specs.Reading.{readBook, readQuestion}
-use Rattle.book.specs.Answers.{Counts, counts, zeros}
+use Rattle.book.specs.Record.{got}
+use Rattle.book.specs.Reading.{readBook}
+use Rattle.book.specs.Answers.{Counts, zeros}
 use Rattle.book.proofs.Acceptance.{book-fine, question-fine}
 use Rattle.heap.specs.Graph.{var, Comp}
 use Rattle.heap.specs.Build.{upFrom, buildRight, start}
 use Rattle.heap.proofs.Laws.Copies.{Whole}
 use Rattle.heap.proofs.Laws.Numbers.{upFrom-mem}
-use Rattle.engine.specs.Turn.{Turned, goes, splits, value, ended, lost, Ending}
+use Rattle.engine.specs.Turn.{Turned, goes, splits, value, ended}
 use Rattle.engine.specs.Plain as Plain
 use Rattle.engine.specs.Compile.{Program, compile}
 use Rattle.engine.specs.Machine as Machine
 use Rattle.engine.specs.Machine.{Kept, fromStart}
-use Rattle.engine.specs.Run.{Limits, Lent, inRange, lentFits, Answer, turnsOf, resultRecord, Moment, moment, Next, ends, next, fits, _⊕_, tally, taken, step, runFrom, opening, ask, outcome, closed, checked, plain, machine}
+use Rattle.engine.specs.Run.{Limits, Lent, inRange, lentFits, Answer, turnsOf, resultRecord, Moment, moment, Next, ends, next, fits, taken, step, runFrom, opening, ask, closed, plain, machine}
 use Rattle.agreement.proofs.Fine.{Takes, FineTerm}
 use Rattle.agreement.proofs.Simulate.{grown-build}
 use Rattle.agreement.proofs.Builds.{right-made, back-self}
 use Rattle.agreement.proofs.Calls.{FineBook}
 use Rattle.agreement.proofs.Accept.{fine-of, question-of}
+use Rattle.agreement.proofs.Refusals.{Case, at-limits, at-book, at-question, at-code, runs, case, plain-asks, machine-asks}
 use Rattle.agreement.proofs.Agree.{Sound, Pools, Same, same-goes, same-splits, same-value, same-ended, turns}
 
 vars-fit : (q : Right) → q .vars ≤ length (buildRight q [] [] .0)
@@ -166,24 +167,13 @@ fine-book l m b book e t r u =
 
 -- The machine and the plain reading give the same outcome (answer, place, counts, results and code written): for all limits, lent memory, books and questions.
 pub agree : (l : Limits) (m : Lent) (b q : List ℕ) → machine l m b q ≡ plain l m b q
-unfolding machine plain checked
-agree l m b q = on-range (inRange l && lentFits l m) refl
+unfolding machine plain
+agree l m b q = go (case l m b q)
   where
-    Goal : Type 0
-    Goal = machine l m b q ≡ plain l m b q
-
-    on-code : (book : Book) (e : ℕ) (r : Right) (d : ℕ) (c : Bool) → (inRange l && lentFits l m) ≡ true → readBook b ≡ got book e → readQuestion book q ≡ got r d → leb (length (compile book .code)) (l .code) ≡ c → Goal
-    on-code book e r d false t u v w = rw (t, u, v, w, checked)
-    on-code book e r d true t u v w = rw (t, u, v, w, checked) (asks book (fine-book l m b book e t u w) l r (question-of book r (question-fine book q r d v .1)))
-
-    on-question : (book : Book) (e : ℕ) (x : Got Right) → (inRange l && lentFits l m) ≡ true → readBook b ≡ got book e → readQuestion book q ≡ x → Goal
-    on-question book e (fault s p) t u v = rw (t, u, v, checked)
-    on-question book e (got r d) t u v = on-code book e r d (leb (length (compile book .code)) (l .code)) t u v refl
-
-    on-book : (x : Got Book) → (inRange l && lentFits l m) ≡ true → readBook b ≡ x → Goal
-    on-book (fault s p) t u = rw (t, u, checked)
-    on-book (got book e) t u = on-question book e (readQuestion book q) t u refl
-
-    on-range : (x : Bool) → (inRange l && lentFits l m) ≡ x → Goal
-    on-range false t = rw (t, checked)
-    on-range true t = on-book (readBook b) t refl
+    go : Case l m b q → machine l m b q ≡ plain l m b q
+    go (at-limits t e) = e _ ∙ sym (e _)
+    go (at-book w p t e) = e _ ∙ sym (e _)
+    go (at-question book x w p t u e) = e _ ∙ sym (e _)
+    go (at-code book x r d t u e) = e _ ∙ sym (e _)
+    go (runs book r A) =
+        machine-asks A ∙ asks book (fine-book l m b book (A .bookEnd) (A .limits) (A .reads) (A .short)) l r (question-of book r (question-fine book q r (A .questionEnd) (A .asks) .1)) ∙ sym (plain-asks A)
