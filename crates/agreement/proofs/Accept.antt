@@ -23,6 +23,7 @@ use Rattle.agreement.proofs.Fine.{FineTerm, FineTerms, FineRights, Some
 module _ (m : Program) (n v : ℕ) where
   mutual
     unfolding arityOf
+
     -- a term, over the program
     pub term-fine : (t : Term) → A.FineTerm (conArities (m .types)) (m .arities) n v t → FineTerm m n v t
     term-fine (app (con c) ts) (k, e, f) = (k, e, terms-fine ts f)

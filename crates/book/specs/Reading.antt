@@ -47,8 +47,9 @@ module _ {A : Type 0} where
   pick [] k (Of kind a b e) = fault Unexpected k
   pick (c ∷ cases) k (Of kind a b e) =
       elim (eqb kind (c .kind)) [
-        true ↦ elim (c .fits a b) [ true ↦ c .read a b e | false ↦ fault Range k ]
-      | false ↦ pick cases k (Of kind a b e) ]
+        | true ↦ elim (c .fits a b) [ true ↦ c .read a b e | false ↦ fault Range k ]
+        | false ↦ pick cases k (Of kind a b e)
+      ]
 
   -- the next record is of one of these kinds
   abbrev pub oneOf : List ℕ → List (Case A) → Reader A
@@ -86,7 +87,7 @@ slotCase (some slots) more = case 9 (λ n _. more && ltb n slots) (λ n _ e. got
 -- a term's record; `more`: the term may have one more
 unfoldable pub readHead : List ℕ → Names → Bool → Reader Head
 readHead s names more = oneOf s (
-      case 7 (λ c _. more && ltb c (length (names .cons))) (λ c _ e. got (applied (con c) (getD (names .cons) c 0)) e)
+    case 7 (λ c _. more && ltb c (length (names .cons))) (λ c _ e. got (applied (con c) (getD (names .cons) c 0)) e)
     ∷ case 8 (λ f _. more && ltb f (length (names .funcs))) (λ f _ e. got (applied (fun f) (getD (names .funcs) f 0)) e)
     ∷ case 10 (λ v _. more && ltb v (names .vars)) (λ v _ e. got (alone (fresh v)) e)
     ∷ slotCase (names .slots) more)
@@ -122,7 +123,7 @@ theOne (arg t ts) = t
 -- a RIGHT, whose term has at most 255 records
 unfoldable pub readRight : List ℕ → List ℕ → List ℕ → Option ℕ → Reader Right
 readRight s cons funcs slots = oneOf s (
-      case 6 (λ v _. leb v 8) (λ v _ e. make (λ ts. record { vars = v; term = theOne ts }) (readTerms s (record { cons = cons; funcs = funcs; slots = slots; vars = v }) 255 1 e))
+    case 6 (λ v _. leb v 8) (λ v _ e. make (λ ts. record { vars = v; term = theOne ts }) (readTerms s (record { cons = cons; funcs = funcs; slots = slots; vars = v }) 255 1 e))
     ∷ [])
 
 -- as many RIGHTs as the RULE says
@@ -156,7 +157,7 @@ readTrees one (a ∷ more) k = after (one a k) (λ t e. make (child t) (readTree
 unfoldable pub readTree : ℕ → List ℕ → List (List ℕ) → List ℕ → Slots → Reader Tree
 readTree zero s types funcs slots k = fault End k
 readTree (suc n) s types funcs slots k = oneOf s (
-      case 4 (λ i t. splits types slots i t) (λ i t e. make (split i t) (readTrees (λ a. readTree n s types funcs (under slots i a)) (consOf types t) e))
+    case 4 (λ i t. splits types slots i t) (λ i t e. make (split i t) (readTrees (λ a. readTree n s types funcs (under slots i a)) (consOf types t) e))
     ∷ case 5 (λ c _. leb 1 c && leb c 16) (λ c _ e. make rule (readRights (readRight s (conArities types) funcs (some (length slots))) c e))
     ∷ case 11 anyBody (λ _ _ e. got norule e)
     ∷ []) k
@@ -165,7 +166,7 @@ readTree (suc n) s types funcs slots k = oneOf s (
 unfoldable pub readCons : List ℕ → ℕ → ℕ → Reader (List ℕ)
 readCons s before zero k = got [] k
 readCons s before (suc n) k = oneOf s (
-      case 2 (λ a _. ltb before 256 && leb a 8) (λ a _ e. make (λ more. a ∷ more) (readCons s (suc before) n e))
+    case 2 (λ a _. ltb before 256 && leb a 8) (λ a _ e. make (λ more. a ∷ more) (readCons s (suc before) n e))
     ∷ []) k
 
 -- the record is of this kind
@@ -178,31 +179,34 @@ unfoldable pub readTypes : List ℕ → ℕ → ℕ → ℕ → Reader (List (Li
 readTypes s zero types cons k = got [] k
 readTypes s (suc n) types cons k =
     elim (isKind 1 (recAt s k)) [
-      true ↦ oneOf s (
+      | true ↦ oneOf s (
           case 1 (λ c _. ltb types 64 && leb 1 c && leb c 32)
-            (λ c _ e. after (readCons s cons c e) (λ cs e. make (λ ts. cs ∷ ts) (readTypes s n (suc types) (cons + c) e)))
-        ∷ []) k
-    | false ↦ got [] k ]
+          (λ c _ e. after (readCons s cons c e) (λ cs e. make (λ ts. cs ∷ ts) (readTypes s n (suc types) (cons + c) e)))
+          ∷ []) k
+      | false ↦ got [] k
+    ]
 
 -- the FUNCs, up to the end, each with its tree; the first argument bounds their number: the number of bytes is enough
 unfoldable pub readFuncs : ℕ → List ℕ → List (List ℕ) → List ℕ → Reader (List Func)
 readFuncs zero s types funcs k = got [] k
 readFuncs (suc n) s types funcs k =
     elim (ltb k (length s)) [
-      false ↦ got [] k
-    | true ↦ oneOf s (
+      | false ↦ got [] k
+      | true ↦ oneOf s (
           case 3 (λ a _. leb a 8) (λ a _ e. after (readTree (suc (length s)) s types funcs (replicate a 1) e)
-            (λ t e. make (λ fs. record { arity = a; tree = t } ∷ fs) (readFuncs n s types funcs e)))
-        ∷ []) k ]
+          (λ t e. make (λ fs. record { arity = a; tree = t } ∷ fs) (readFuncs n s types funcs e)))
+          ∷ []) k
+    ]
 
 -- a book's bytes, read: over 32,768 bytes is a fault at 32,768; then the first pass; then its TYPEs and its FUNCs
 unfoldable pub readBook : List ℕ → Got Book
 readBook s =
     elim (leb (length s) 32768) [
-      false ↦ fault End 32768
-    | true ↦ after (scan s bookFits (length s) 0 0) (λ _ _.
-        after (readTypes s 65 0 0 0) (λ types e.
-        make (λ funcs. record { types = types; funcs = funcs }) (readFuncs (length s) s types (funcArities s) e))) ]
+      | false ↦ fault End 32768
+      | true ↦ after (scan s bookFits (length s) 0 0) (λ _ _.
+          after (readTypes s 65 0 0 0) (λ types e.
+          make (λ funcs. record { types = types; funcs = funcs }) (readFuncs (length s) s types (funcArities s) e)))
+    ]
 
 -- nothing may follow
 unfoldable pub last : List ℕ → Right → Reader Right

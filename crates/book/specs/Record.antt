@@ -34,12 +34,15 @@ bodyByte s k m i = elim (ltb i m) [ true ↦ getD s (k + i) 0 | false ↦ 0 ]
 unfoldable pub recAt : List ℕ → ℕ → Rec
 recAt s k =
     elim (ltb k (length s)) [
-      false ↦ Bad End
-    | true ↦ elim (bodyOf (getD s k 0)) [
-        none ↦ Bad Unknown
-      | some m ↦ elim (leb (k + 1 + m) (length s)) [
-          false ↦ Bad Cut
-        | true ↦ Of (getD s k 0) (bodyByte s (k + 1) m 0) (bodyByte s (k + 1) m 1) (k + 1 + m) ] ] ]
+      | false ↦ Bad End
+      | true ↦ elim (bodyOf (getD s k 0)) [
+        | none ↦ Bad Unknown
+        | some m ↦ elim (leb (k + 1 + m) (length s)) [
+          | false ↦ Bad Cut
+          | true ↦ Of (getD s k 0) (bodyByte s (k + 1) m 0) (bodyByte s (k + 1) m 1) (k + 1 + m)
+        ]
+      ]
+    ]
 
 -- The first pass: ONE scan over the records from place k on. `fits` judges each by the number of FUNCs before it, its kind and its first number.
 -- The third argument bounds the number of records: the length is enough.
@@ -47,12 +50,15 @@ unfoldable pub scan : List ℕ → (ℕ → ℕ → ℕ → Bool) → ℕ → �
 scan s fits zero funcs k = got tt k
 scan s fits (suc n) funcs k =
     elim (ltb k (length s)) [
-      false ↦ got tt k
-    | true ↦ elim (recAt s k) [
-        Bad w ↦ fault w k
-      | Of kind a b e ↦ elim (fits funcs kind a) [
-          false ↦ fault Range k
-        | true ↦ elim (eqb kind 3) [ true ↦ scan s fits n (suc funcs) e | false ↦ scan s fits n funcs e ] ] ] ]
+      | false ↦ got tt k
+      | true ↦ elim (recAt s k) [
+        | Bad w ↦ fault w k
+        | Of kind a b e ↦ elim (fits funcs kind a) [
+          | false ↦ fault Range k
+          | true ↦ elim (eqb kind 3) [ true ↦ scan s fits n (suc funcs) e | false ↦ scan s fits n funcs e ]
+        ]
+      ]
+    ]
 
 -- in a book, a FUNC has an arity up to 8, and there are at most 256
 unfoldable pub bookFits : ℕ → ℕ → ℕ → Bool
@@ -67,8 +73,9 @@ unfoldable pub funcsFrom : List ℕ → ℕ → ℕ → List ℕ
 funcsFrom s zero k = []
 funcsFrom s (suc n) k =
     elim (recAt s k) [
-      Bad w ↦ []
-    | Of kind a b e ↦ elim (eqb kind 3) [ true ↦ a ∷ funcsFrom s n e | false ↦ funcsFrom s n e ] ]
+      | Bad w ↦ []
+      | Of kind a b e ↦ elim (eqb kind 3) [ true ↦ a ∷ funcsFrom s n e | false ↦ funcsFrom s n e ]
+    ]
 
 -- the arities of the FUNCs of the first pass, by function number, misplaced ones too
 unfoldable pub funcArities : List ℕ → List ℕ

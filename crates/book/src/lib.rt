@@ -50,4 +50,5 @@ pub struct Slots {
 
 // A constructor's number and a function's: never the one for the other.
 pub struct ConNo(pub u8);
+
 pub struct FunNo(pub u8);
