@@ -7,8 +7,7 @@ use mathlib.Core.List.{List, [], _∷_}
 use lib.ListN.{length, getD, take, drop, set, length-set, length-drop}
 use lib.Seq.{take-set-lt, drop-set-lt, take-set-le, drop-set-add, drop-drop, take-take, take-nil}
 use native.Mathlib.Omega.{arith}
-use native.Mathlib.Nat.{mul-zero, zero-add, add-zero, mul-suc, suc-mul, add-suc, suc-add, le-of-suc-le-suc}
-use native.Mathlib.Numerals.{add-one}
+use native.Mathlib.Nat.{mul-zero, zero-add, mul-suc, suc-add}
 use Rattle.mem.specs.Words.{words, rows, Wrote, Only}
 
 two-suc : (k : ℕ) → 2 * suc k ≡ suc (suc (2 * k))

@@ -3,8 +3,8 @@
 use Prim.Native.Nat.{ℕ, zero, suc, _+_, _-_, _*_, _/_, _%_, _≤_, _<_}
 use mathlib.Core.Path.{_≡_, refl, ap, sym, _∙_, subst}
 use mathlib.Core.Logic.{⊎-elim}
-use mathlib.Core.List.{List, [], _∷_, map}
-use lib.ListN.{length, getD, take, drop, set, length-set, length-take, length-drop, length-map, List·getD-map, List·getD-eq-default}
+use mathlib.Core.List.{List, [], _∷_}
+use lib.ListN.{length, getD, take, drop, length-take, length-drop, length-map, List·getD-map, List·getD-eq-default}
 use lib.Seq.{getD-take, getD-drop}
 use native.Mathlib.Omega.{arith}
 use native.Mathlib.Nat.{add-zero, add-assoc}
@@ -12,13 +12,15 @@ use native.Mathlib.Numerals.{sub-one}
 use lib.Dec.{lit<}
 use types.Run.{OneOf}
 use denote.Enum.Declared.{tagOf}
-use Rattle.book.specs.Syntax.{Symbol, con, fun}
+use Rattle.book.specs.Syntax.{con, fun}
 use Rattle.mem.specs.Words.{words, rows}
 use Rattle.mem.proofs.Laws.{row-get, length-rows}
 use Rattle.heap.specs.Graph.{Graph, Node, cell, var, fwd, node, deref, follow, args}
 use Rattle.store.specs.Rows.{ofKind, nodeOf, seen}
 use Rattle.store.specs.Regions.{graphOf, marksOf, linksOf, listOf, placesOf, framesOf, restOf}
 use Rattle.store.proofs.Seen as the
+use Rattle.book.specs.declared.ConNo.{ConNo}
+use Rattle.book.specs.declared.FunNo.{FunNo}
 use Rattle.store.specs.declared.NodeNo.{NodeNo}
 use Rattle.store.specs.declared.Seen.{Seen}
 use Rattle.store.specs.declared.Seen.the-variants.{Var, Con, Call, Fwd}
@@ -82,6 +84,27 @@ seen-fwd var t e = let z : _≡_ {A = ℕ} 0 1 = cc in absurd (omega arith)
 seen-fwd (cell (con c) hs) t e = let z : _≡_ {A = ℕ} 0 1 = cc in absurd (omega arith)
 seen-fwd (cell (fun f) hs) t e = let z : _≡_ {A = ℕ} 0 1 = cc in absurd (omega arith)
 seen-fwd (fwd h) t e = cc
+
+pub seen-var : (x : Node) → Var ≡ seen x → x ≡ var
+unfolding seen args
+seen-var var e = refl
+seen-var (cell (con y) hs) e = let z : _≡_ {A = ℕ} 0 1 = cc in absurd (omega arith)
+seen-var (cell (fun y) hs) e = let z : _≡_ {A = ℕ} 0 1 = cc in absurd (omega arith)
+seen-var (fwd h) e = let z : _≡_ {A = ℕ} 0 1 = cc in absurd (omega arith)
+
+pub seen-con : (x : Node) (c : ConNo) (k : ℕ) → Con c k ≡ seen x → (x ≡ cell (con (c .0)) (args x)) × (length (args x) ≡ k)
+unfolding seen args
+seen-con var c k e = let z : _≡_ {A = ℕ} 0 1 = cc in absurd (omega arith)
+seen-con (cell (con y) hs) c k e = (cc, cc)
+seen-con (cell (fun y) hs) c k e = let z : _≡_ {A = ℕ} 0 1 = cc in absurd (omega arith)
+seen-con (fwd h) c k e = let z : _≡_ {A = ℕ} 0 1 = cc in absurd (omega arith)
+
+pub seen-call : (x : Node) (f : FunNo) (k : ℕ) → Call f k ≡ seen x → (x ≡ cell (fun (f .0)) (args x)) × (length (args x) ≡ k)
+unfolding seen args
+seen-call var f k e = let z : _≡_ {A = ℕ} 0 1 = cc in absurd (omega arith)
+seen-call (cell (con y) hs) f k e = let z : _≡_ {A = ℕ} 0 1 = cc in absurd (omega arith)
+seen-call (cell (fun y) hs) f k e = (cc, cc)
+seen-call (fwd h) f k e = let z : _≡_ {A = ℕ} 0 1 = cc in absurd (omega arith)
 
 -- a forward is followed, another node ends it, and so does a number past the graph
 pub deref-go : (left : ℕ) (g : Graph) (h t : ℕ) → 0 < left → node g h ≡ fwd t → deref left g h ≡ deref (left - 1) g t

@@ -5,23 +5,23 @@ use mathlib.Core.Path.{_≡_, refl, ap, sym, _∙_, subst}
 use mathlib.Core.List.{List, [], _∷_, _++_, map, append-assoc}
 use mathlib.Core.Option.{none, some}
 use lib.ListN.{length, getD, take, drop, set, length-set, length-take, length-drop}
-use lib.Seq.{paste, paste-zero, paste-suc, length-paste, take-set-lt, drop-set-add, getD-set-same, getD-set-other, getD-take, getD-drop, take-at, drop-at, take-take, take-append-le, drop-drop, drop-paste, length-take-le, set-set}
+use lib.Seq.{paste, paste-zero, paste-suc, length-paste, take-set-lt, drop-set-add, getD-set-same, getD-set-other, getD-take, getD-drop, take-at, drop-at, take-take, take-append-le, drop-drop, drop-paste, length-take-le}
 use native.Mathlib.Omega.{arith}
-use native.Mathlib.Nat.{add-zero, add-assoc, sub-self}
+use native.Mathlib.Nat.{add-zero, add-assoc}
 use native.Mathlib.Numerals.{add-one}
 use lib.Dec.{lit<}
-use Rattle.book.specs.Syntax.{Symbol, con, fun}
+use Rattle.book.specs.Syntax.{Symbol}
 use Rattle.mem.specs.Words.{words, rows, Wrote, Only}
 use Rattle.mem.proofs.Laws.{drop-take, only-wrote, only-then, drop-kept, part-before, part-behind, rows-kept, row-only, part-in}
-use Rattle.heap.specs.Graph.{Graph, Node, cell, var, fwd}
+use Rattle.heap.specs.Graph.{Node, cell, var, fwd}
 use Rattle.heap.specs.Build.{upFrom}
-use Rattle.heap.specs.Store.{Store, taken, take1}
+use Rattle.heap.specs.Store.{taken, take1}
 use Rattle.store.specs.Rows.{ofKind, nodeOf, symbolOf, HeadIs, filled}
 use Rattle.book.specs.declared.ConNo.{ConNo}
 use Rattle.book.specs.declared.FunNo.{FunNo}
 use Rattle.store.specs.declared.Head.{Head}
 use Rattle.store.specs.declared.Head.the-variants.{Makes, Calls}
-use Rattle.store.specs.Regions.{Room, graphOf, marksOf, linksOf, listOf, placesOf, framesOf, restOf, Memory, memory, Did, setNode, setMark, setLink, setList, setPlace, setNext, setFrame, setRest, withGraph, withMarks, withLinks, withList, withPlaces, withFrames, withRest, Frame, frameAt, stack, storeOf}
+use Rattle.store.specs.Regions.{graphOf, marksOf, linksOf, listOf, placesOf, framesOf, restOf, Memory, Did, setNode, setMark, setLink, setList, setPlace, setNext, setFrame, setRest, withFrames, Frame, stack, storeOf}
 
 memory-is : {m m′ : Memory} → m .graph ≡ m′ .graph → m .marks ≡ m′ .marks → m .links ≡ m′ .links → m .list ≡ m′ .list → m .places ≡ m′ .places → m .frames ≡ m′ .frames → m .rest ≡ m′ .rest → m ≡ m′
 memory-is a b c d e f g = λ i. record { graph = a i; marks = b i; links = c i; list = d i; places = e i; frames = f i; rest = g i }

@@ -2,8 +2,8 @@
 -- Here, in order: a row as a node; what is seen of a node; a cell's symbol, head word and arguments.
 -- Not here: where the rows lie (Regions).
 -- Assumes nothing.
-use Prim.Native.Nat.{ℕ, zero, suc, _+_, _*_, _/_, _%_}
-use mathlib.Core.List.{List, [], _∷_}
+use Prim.Native.Nat.{ℕ, zero, suc, _/_, _%_}
+use mathlib.Core.List.{List}
 use mathlib.Core.Path.{_≡_}
 use lib.ListN.{length, getD, take, drop}
 use lib.Seq.{paste}

@@ -2,23 +2,16 @@ use borrow.Author.Needs.{needs}
 use Rattle.store.proofs.Laws.{list-word}
 use Rattle.store.proofs.get_list.Statement.{statement}
 use Rattle.store.proofs.get_list.Tie as tie
-use Rattle.store.proofs.get_list.Reads as reads
-use Rattle.store.proofs.get_list.Lts as lts
-use Rattle.mem.proofs.get.Reads as get-reads
 
--- src/lib.rt:181:24
 mul-get : tie.Need-mul-get
 mul-get c = search needs
 
--- src/lib.rt:181:24
 add-get : tie.Need-add-get
 add-get c = search needs
 
--- src/lib.rt:181:12
 get-requires : tie.Need-get-requires
 get-requires c κs = search needs
 
--- src/lib.rt:176:1
 returns : tie.Need-returns
 returns c = list-word _ _ _ _ (c .before .before .pre .1) (c .get .ensures)
 

@@ -10,43 +10,31 @@ use Rattle.store.proofs.Laws.{look-words, seenOf, seen-rest}
 use borrow.Author.Needs.{needs}
 use Rattle.store.proofs.look.Statement.{statement}
 use Rattle.store.proofs.look.Tie as tie
-use Rattle.store.proofs.look.Reads as reads
-use Rattle.store.proofs.look.Lts as lts
-use Rattle.mem.proofs.get.Reads as get-reads
 
--- src/lib.rt:41:20
 cast-at : tie.Need-cast-at
 cast-at c = search needs
 
--- src/lib.rt:41:14
 mul-at : tie.Need-mul-at
 mul-at c = search needs
 
--- src/lib.rt:42:9
 get-requires : tie.Need-get-requires
 get-requires c κs = search needs
 
--- src/lib.rt:43:29
 add-get : tie.Need-add-get
 add-get c = search needs
 
--- src/lib.rt:43:17
 get-requires-2 : tie.Need-get-requires-2
 get-requires-2 c κs = search needs
 
--- src/lib.rt:47:30
 cast-t12 : tie.Need-cast-t12
 cast-t12 c = search needs
 
--- src/lib.rt:48:31
 cast-t15 : tie.Need-cast-t15
 cast-t15 c = search needs
 
--- src/lib.rt:49:43
 add-get-2 : tie.Need-add-get-2
 add-get-2 c = search needs
 
--- src/lib.rt:49:31
 get-requires-3 : tie.Need-get-requires-3
 get-requires-3 c κs = search needs
 

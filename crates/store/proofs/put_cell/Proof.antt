@@ -2,49 +2,34 @@ use Rattle.store.proofs.Writes.{did-cell}
 use borrow.Author.Needs.{needs}
 use Rattle.store.proofs.put_cell.Statement.{statement}
 use Rattle.store.proofs.put_cell.Tie as tie
-use Rattle.store.proofs.put_cell.Reads as reads
-use Rattle.store.proofs.put_cell.Lts as lts
-use Rattle.mem.proofs.put.Reads as put-reads
-use Rattle.store.proofs.head_word.Reads as head-word-reads
-use Rattle.store.proofs.put_args.Reads as put-args-reads
 
--- src/lib.rt:133:20
 cast-at : tie.Need-cast-at
 cast-at c = search needs
 
--- src/lib.rt:133:14
 mul-at : tie.Need-mul-at
 mul-at c = search needs
 
--- src/lib.rt:134:9
 head-word-requires : tie.Need-head-word-requires
 head-word-requires c κs = search needs
 
--- src/lib.rt:135:5
 put-requires : tie.Need-put-requires
 put-requires c κs = search needs
 
--- src/lib.rt:136:17
 add-put : tie.Need-add-put
 add-put c = search needs
 
--- src/lib.rt:136:5
 put-requires-2 : tie.Need-put-requires-2
 put-requires-2 c κs = search needs
 
--- src/lib.rt:137:17
 add-put-args : tie.Need-add-put-args
 add-put-args c = search needs
 
--- src/lib.rt:137:5
 put-args-requires : tie.Need-put-args-requires
 put-args-requires c κs = search needs
 
--- src/lib.rt:127:1
 same-length : tie.Need-same-length
 same-length c = search needs
 
--- src/lib.rt:127:1
 returns : tie.Need-returns
 returns c =
     let z = c .before .before .before .before .before .before .before .before .before .before .before .before .before .before .before in

@@ -2,35 +2,25 @@ use Rattle.store.proofs.Writes.{did-fwd}
 use borrow.Author.Needs.{needs}
 use Rattle.store.proofs.put_fwd.Statement.{statement}
 use Rattle.store.proofs.put_fwd.Tie as tie
-use Rattle.store.proofs.put_fwd.Reads as reads
-use Rattle.store.proofs.put_fwd.Lts as lts
-use Rattle.mem.proofs.put.Reads as put-reads
 
--- src/lib.rt:99:20
 cast-at : tie.Need-cast-at
 cast-at c = search needs
 
--- src/lib.rt:99:14
 mul-at : tie.Need-mul-at
 mul-at c = search needs
 
--- src/lib.rt:100:5
 put-requires : tie.Need-put-requires
 put-requires c κs = search needs
 
--- src/lib.rt:101:17
 add-put : tie.Need-add-put
 add-put c = search needs
 
--- src/lib.rt:101:5
 put-requires-2 : tie.Need-put-requires-2
 put-requires-2 c κs = search needs
 
--- src/lib.rt:94:1
 same-length : tie.Need-same-length
 same-length c = search needs
 
--- src/lib.rt:94:1
 returns : tie.Need-returns
 returns c = did-fwd _ _ _ _ _ _ (c .before .before .before .before .before .before .before .before .before .before .pre .1) (c .before .before .before .before .before .before .before .before .before .before .pre .0 .1) (c .before .before .before .before .before .before .put .ensures) (c .before .before .put2 .ensures)
 

@@ -2,35 +2,25 @@ use Rattle.store.proofs.Writes.{did-next}
 use borrow.Author.Needs.{needs}
 use Rattle.store.proofs.put_next.Statement.{statement}
 use Rattle.store.proofs.put_next.Tie as tie
-use Rattle.store.proofs.put_next.Reads as reads
-use Rattle.store.proofs.put_next.Lts as lts
-use Rattle.mem.proofs.put.Reads as put-reads
 
--- src/lib.rt:241:17
 mul-put : tie.Need-mul-put
 mul-put c = search needs
 
--- src/lib.rt:241:30
 mul-put-2 : tie.Need-mul-put-2
 mul-put-2 c = search needs
 
--- src/lib.rt:241:17
 add-put : tie.Need-add-put
 add-put c = search needs
 
--- src/lib.rt:241:17
 add-put-2 : tie.Need-add-put-2
 add-put-2 c = search needs
 
--- src/lib.rt:241:5
 put-requires : tie.Need-put-requires
 put-requires c κs = search needs
 
--- src/lib.rt:236:1
 same-length : tie.Need-same-length
 same-length c = search needs
 
--- src/lib.rt:236:1
 returns : tie.Need-returns
 returns c = did-next _ _ _ _ _ (c .before .before .before .before .before .pre .1) (c .before .before .put .ensures)
 
