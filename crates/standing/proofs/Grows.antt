@@ -289,4 +289,3 @@ state-keep {I = I} {N} {R} {T} {F} {I′ = I′} {N′} {R′} {T′} {F′} S o
   vars = each-keep (o .wider) F F′ (S .vars);
   holds = o .holds;
 }
-

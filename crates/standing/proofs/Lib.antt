@@ -5,3 +5,6 @@ pub mod Turns
 pub mod Queue
 pub mod Contract
 pub mod Collect
+pub mod Room
+pub mod Moments
+pub mod OnStore
