@@ -8,3 +8,4 @@ pub mod Collect
 pub mod Room
 pub mod Moments
 pub mod OnStore
+pub mod Walks
