@@ -1,0 +1,11 @@
+pub mod Grows
+pub mod Step
+pub mod Stands
+pub mod Turns
+pub mod Queue
+pub mod Contract
+pub mod Collect
+pub mod Room
+pub mod Moments
+pub mod OnStore
+pub mod Walks
