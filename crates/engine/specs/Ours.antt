@@ -56,34 +56,58 @@ free i = 0x0C ∷ i ∷ 0 ∷ []
 -- the ends of runs at their limits, met and missed by one
 abbrev edges : List Row
 edges =
+    -- waiting, less one, plus three alternatives is the pool limit
     row (limits 1600 3 10000 4096) bookB questionQ (told 0 0 (counts 9 18 4 1 2 1 0)) (firstB ++ secondB) codeB
+    -- the budget met by the turn that empties the pool
     ∷ row (limits 1600 64 9 4096) bookB questionQ (told 0 0 (counts 9 18 4 1 2 1 0)) (firstB ++ secondB) codeB
+    -- no budget: no turn, the question built
     ∷ row (limits 1600 64 0 4096) bookB questionQ (told 1 0 (counts 0 3 1 0 0 0 0)) [] codeB
+    -- as many nodes as are made
     ∷ row (limits 18 64 10000 4096) bookB questionQ (told 0 0 (counts 9 18 4 1 2 1 0)) (firstB ++ secondB) codeB
+    -- one fewer: the third rule's node
     ∷ row (limits 17 64 10000 4096) bookB questionQ (told 2 0 (counts 3 17 4 1 0 0 0)) [] codeB
+    -- the question's own nodes just fit
     ∷ row (limits 3 64 10000 4096) bookB questionQ (told 2 0 (counts 0 3 1 0 0 0 0)) [] codeB
+    -- they do not: every count 0, before the budget is looked at; the code stands
     ∷ row (limits 2 64 0 4096) bookB questionQ (told 2 0 zeros) [] codeB
+    -- both results just fit
     ∷ row (limits 1600 64 10000 18) bookB questionQ (told 0 0 (counts 9 18 4 1 2 1 0)) (firstB ++ secondB) codeB
+    -- the first does not
     ∷ row (limits 1600 64 10000 8) bookB questionQ (told 4 0 (counts 7 18 4 1 0 1 0)) [] codeB
     ∷ []
 
 -- the ranges, the order of refusals, and lent memory one byte short. Where the limits are in range, the empty question is refused
 abbrev refusals : List Row
 refusals =
+    -- the largest limits
     refusal (record { nodes = 16384; pool = 1024; budget = 1000000; results = 65536; code = 262144 }) [] [] 12 0
+    -- the smallest
     ∷ refusal (record { nodes = 1; pool = 1; budget = 0; results = 0; code = 0 }) [] [] 12 0
+    -- nodes from 1
     ∷ refusal (limits 0 64 10000 4096) [] [] 10 0
+    -- nodes to 16,384
     ∷ refusal (limits 16385 64 10000 4096) [] [] 10 0
+    -- pool from 1
     ∷ refusal (limits 1600 0 10000 4096) [] [] 10 0
+    -- pool to 1,024
     ∷ refusal (limits 1600 1025 10000 4096) [] [] 10 0
+    -- budget to 1,000,000
     ∷ refusal (limits 1600 64 1000001 4096) [] [] 10 0
+    -- results room to 65,536
     ∷ refusal (limits 1600 64 10000 65537) [] [] 10 0
+    -- code room to 262,144
     ∷ refusal (codeRoom 262145) [] [] 10 0
+    -- 10 before 11
     ∷ refusal (limits 0 64 10000 4096) (0x01 ∷ []) [] 10 0
+    -- 11 before 12
     ∷ refusal usual (0x01 ∷ []) [] 11 0
+    -- 12 before 13
     ∷ refusal (codeRoom 104) bookB [] 12 0
+    -- work memory
     ∷ lentTo usual (workSize usual - 1) 16384 4096
+    -- code memory
     ∷ lentTo usual (workSize usual) 16383 4096
+    -- results memory
     ∷ lentTo usual (workSize usual) 16384 4095
     ∷ []
 
@@ -91,11 +115,21 @@ refusals =
 -- wait, fresh variables, an asker's variable that is not used
 abbrev longer : List Row
 longer =
+    -- B's function 1 of a variable: no is tried too, and fails
     row usual bookB (0x06 ∷ 0x01 ∷ 0x08 ∷ 0x01 ∷ 0x0A ∷ 0x00 ∷ 0x07 ∷ 0x02 ∷ []) (told 0 0 (counts 4 11 3 1 1 1 0)) (at 4 ++ 7 ∷ 2 ∷ 7 ∷ 1 ∷ []) codeB
+    -- N's function 0 of a variable: a pair of two new variables, then its first part is narrowed
     ∷ row usual bookN (0x06 ∷ 0x01 ∷ 0x08 ∷ 0x00 ∷ 0x0A ∷ 0x00 ∷ []) (told 0 0 (counts 6 20 4 2 2 0 0)) (at 5 ++ 7 ∷ 0 ∷ 7 ∷ 2 ∷ 7 ∷ 0 ∷ free 0 ++ at 6 ++ free 0 ++ 7 ∷ 2 ∷ 7 ∷ 1 ∷ free 0) codeN
+    -- N's function 1 of two variables: alternatives made while another waits go to the back
     ∷ row usual bookN (0x06 ∷ 0x02 ∷ 0x08 ∷ 0x01 ∷ 0x0A ∷ 0x00 ∷ 0x0A ∷ 0x01 ∷ []) (told 0 0 (counts 7 20 5 2 2 1 0)) (at 6 ++ free 0 ++ 7 ∷ 1 ∷ free 0 ++ at 7 ++ 7 ∷ 1 ∷ 7 ∷ 0 ∷ 7 ∷ 0 ∷ []) codeN
+    -- the pool limit with one waiting, just met
+    ∷ row (limits 1600 3 10000 4096) bookN (0x06 ∷ 0x02 ∷ 0x08 ∷ 0x01 ∷ 0x0A ∷ 0x00 ∷ 0x0A ∷ 0x01 ∷ []) (told 0 0 (counts 7 20 5 2 2 1 0)) (at 6 ++ free 0 ++ 7 ∷ 1 ∷ free 0 ++ at 7 ++ 7 ∷ 1 ∷ 7 ∷ 0 ∷ 7 ∷ 0 ∷ []) codeN
+    -- and missed by one
+    ∷ row (limits 1600 2 10000 4096) bookN (0x06 ∷ 0x02 ∷ 0x08 ∷ 0x01 ∷ 0x0A ∷ 0x00 ∷ 0x0A ∷ 0x01 ∷ []) (told 3 0 (counts 1 11 3 1 0 0 0)) [] codeN
+    -- N's function 2: two fresh variables made, one used
     ∷ row usual bookN (0x06 ∷ 0x01 ∷ 0x08 ∷ 0x02 ∷ 0x0A ∷ 0x00 ∷ []) (told 0 0 (counts 2 5 1 0 1 0 0)) (at 2 ++ 7 ∷ 2 ∷ free 0 ++ free 1 ++ free 0) codeN
+    -- N's function 0 of function 2 of a variable: the unused variable is not copied
     ∷ row usual bookN (0x06 ∷ 0x01 ∷ 0x08 ∷ 0x00 ∷ 0x08 ∷ 0x02 ∷ 0x0A ∷ 0x00 ∷ []) (told 0 0 (counts 6 17 3 1 2 0 0)) (at 5 ++ 7 ∷ 0 ∷ free 0 ++ at 6 ++ free 0 ++ free 0) codeN
+    -- each asker's variable has a term, and 0 in its own
     ∷ row usual [] (0x06 ∷ 0x02 ∷ 0x0A ∷ 0x01 ∷ []) (told 0 0 (counts 1 2 1 0 1 0 0)) (at 1 ++ free 0 ++ free 0 ++ free 0) []
     ∷ []
 
