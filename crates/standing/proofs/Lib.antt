@@ -9,3 +9,4 @@ pub mod Room
 pub mod Moments
 pub mod OnStore
 pub mod Walks
+pub mod Stacks

@@ -25,7 +25,7 @@ use Rattle.standing.specs.Contract.{shape}
 use Rattle.standing.specs.Part.{rootsOf, Handle, Part}
 use Rattle.standing.proofs.Contract.{stands-shape}
 
-mem-map-to : (f : ℕ → ℕ) (l : List ℕ) (x : ℕ) → List·Memᴰ x l → List·Memᴰ (f x) (map f l)
+pub mem-map-to : (f : ℕ → ℕ) (l : List ℕ) (x : ℕ) → List·Memᴰ x l → List·Memᴰ (f x) (map f l)
 mem-map-to f [] x m = absurd (List·Memᴰ·not-nil m)
 mem-map-to f (y ∷ l) x m = go (mem-map-to f l x) (List·Memᴰ·cases-cons m)
   where
