@@ -10,3 +10,4 @@ pub mod Moments
 pub mod OnStore
 pub mod Walks
 pub mod Stacks
+pub mod Alternatives

@@ -17,14 +17,14 @@ use Rattle.engine.specs.Compile.{Program, compile}
 use Rattle.engine.specs.Plain as Plain
 use Rattle.engine.specs.Machine as Machine
 use Rattle.engine.specs.Machine.{Held, Kept, heldOf}
-use Rattle.engine.specs.Run.{Limits, turnsOf, nodesOf, resultRecord, Moment, moment, fits, _⊕_, tally, taken, step}
+use Rattle.engine.specs.Run.{Limits, Next, ends, next, turnsOf, nodesOf, resultRecord, Moment, moment, fits, _⊕_, tally, taken, step}
 use Rattle.agreement.proofs.Calls.{FineBook}
 use Rattle.agreement.proofs.Agree.{Sound, Pools, Same, same-goes, same-splits, same-value, same-ended}
 use Rattle.agreement.proofs.Runs.{same-turn}
-use Rattle.standing.specs.Shared.{Took, went, split, wrote, ended, lost, noneLeft, madeIn, storeTurn, StoreMoment, storeMoment, storeTaken, storeStep}
+use Rattle.standing.specs.Shared.{StoreNext, storeEnds, storeNext, Took, went, split, wrote, ended, lost, noneLeft, madeIn, storeTurn, StoreMoment, storeMoment, storeTaken, storeStep}
 use Rattle.standing.specs.Stands.{Ours, Stands, Pool, empty, join, Short, After, after-goes, after-splits, after-value, after-ended, after-lost, after-full}
 use Rattle.standing.specs.Contract.{shape}
-use Rattle.standing.specs.Moments.{Room, Sounds, StandsFor, stands-for, StandsNext, both-end, both-go}
+use Rattle.standing.specs.Moments.{Room, Sounds, shown, shownNext, storeShown, storeShownNext, StandsFor, stands-for, StandsNext, both-end, both-go}
 use Rattle.standing.proofs.Queue.{queue-goes, queue-splits}
 use Rattle.standing.proofs.Turns.{store-stands}
 use Rattle.standing.proofs.Contract.{stands-shape}
@@ -38,6 +38,11 @@ pool-length (join S p a) = ap suc (pool-length p)
 pub pool-shapes : {μ : Store} {ks : List Kept} {cs : List Held} {own : List ℕ} → Pool μ ks cs own → map (λ k. shape (k .comp .graph) (heldOf k)) ks ≡ map (shape (μ .nodes)) cs
 pool-shapes empty = refl
 pool-shapes {μ} (join {k = k} {c = c} S p a) = let e = stands-shape (k .comp .graph) (heldOf k) μ c S in let f = pool-shapes p in cc
+
+-- what stands for one another is shown alike
+pub stands-shown : (book : Book) (B : FineBook book) (l : Limits) (x : Moment Kept) (y : StoreMoment) → StandsFor book B l x y → storeShown y ≡ shown x
+unfolding shown storeShown
+stands-shown book B l (moment ks κ out) (storeMoment μ cs κ′ out′) (stands-for Q ss R) = let e = pool-shapes (Q .pool) in rw e
 
 module _ (book : Book) (B : FineBook book) where
   abbrev m : Program
@@ -126,3 +131,12 @@ module _ (book : Book) (B : FineBook book) where
             turn true t = rw (t, step, storeStep) (taken-stands μ k c S ks′ cs′ own′ p a ss κ out R (Machine.turn m k) (storeTurn (l .nodes) m μ c)
                 (sound-turn (Plain.turn book (k .comp)) (Machine.turn m k) (same-turn book B (k .comp) k refl s)) (turn-sized m k) (store-stands book B k s μ c S (l .nodes) (room-bound R)))
             turn false t = rw (t, step, storeStep) both-end
+
+    -- and so, numbers and forwards aside, the state after the turn is the state that the definition gives, each computation's stack included
+    pub step-shown : (x : Moment Kept) (y : StoreMoment) → StandsFor book B l x y → storeShownNext (storeStep m l y) ≡ shownNext (step (Machine.turn m) l x)
+    unfolding shownNext storeShownNext
+    step-shown x y S = go (step (Machine.turn m) l x) (storeStep m l y) (step-stands x y S)
+      where
+        go : (u : Next Kept) (v : StoreNext) → StandsNext book B l u v → storeShownNext v ≡ shownNext u
+        go (ends a) (storeEnds a′) both-end = refl
+        go (next x) (storeNext y) (both-go S) = ap next (stands-shown book B l x y S)
