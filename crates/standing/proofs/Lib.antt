@@ -11,3 +11,4 @@ pub mod OnStore
 pub mod Walks
 pub mod Stacks
 pub mod Alternatives
+pub mod Within

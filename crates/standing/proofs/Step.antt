@@ -192,18 +192,19 @@ module _ (m : Program) where
   abbrev exec₂ : ℕ → State Store → Stop Store
   exec₂ n = exec (λ μ. μ .nodes) take1 n m
 
+  -- one instruction of the code
+  pub step-alike : (w : World) (I N : List ℕ) (R : Option ℕ) (T F : List ℕ) (g : Graph) (I′ N′ : List ℕ) (R′ : Option ℕ) (T′ F′ : List ℕ) (μ : Store) → States w I N R T F g I′ N′ R′ T′ F′ μ
+      → Steps w g μ (step (λ x. x) own m (st I N R T F g)) (step (λ μ. μ .nodes) take1 m (st I′ N′ R′ T′ F′ μ))
+  unfolding step
+  step-alike w I N R T F g I′ N′ R′ T′ F′ μ S =
+      rw (sym (S .code)) (run-alike m w N R T F g N′ R′ T′ F′ μ (drop (width (decode I)) I) (record { code = refl; stack = S .stack; current = S .current; terms = S .terms; vars = S .vars; holds = S .holds }) (decode I))
+
   exec-alike : (n : ℕ) (w : World) (I N : List ℕ) (R : Option ℕ) (T F : List ℕ) (g : Graph) (I′ N′ : List ℕ) (R′ : Option ℕ) (T′ F′ : List ℕ) (μ : Store) → States w I N R T F g I′ N′ R′ T′ F′ μ
       → Stops w g μ (exec₁ n (st I N R T F g)) (exec₂ n (st I′ N′ R′ T′ F′ μ))
   unfolding exec
   exec-alike zero w I N R T F g I′ N′ R′ T′ F′ μ S = stops-broken
-  exec-alike (suc n) w I N R T F g I′ N′ R′ T′ F′ μ S = go (exec-alike n) (step (λ x. x) own m (st I N R T F g)) (step (λ μ. μ .nodes) take1 m (st I′ N′ R′ T′ F′ μ)) refl refl once
+  exec-alike (suc n) w I N R T F g I′ N′ R′ T′ F′ μ S = go (exec-alike n) (step (λ x. x) own m (st I N R T F g)) (step (λ μ. μ .nodes) take1 m (st I′ N′ R′ T′ F′ μ)) refl refl (step-alike w I N R T F g I′ N′ R′ T′ F′ μ S)
     where
-      J : List ℕ
-      J = drop (width (decode I)) I
-
-      once : Steps w g μ (step (λ x. x) own m (st I N R T F g)) (step (λ μ. μ .nodes) take1 m (st I′ N′ R′ T′ F′ μ))
-      once = unfold step in (rw (sym (S .code)) (run-alike m w N R T F g N′ R′ T′ F′ μ J (record { code = refl; stack = S .stack; current = S .current; terms = S .terms; vars = S .vars; holds = S .holds }) (decode I)))
-
       go : ((w : World) (I N : List ℕ) (R : Option ℕ) (T F : List ℕ) (g : Graph) (I′ N′ : List ℕ) (R′ : Option ℕ) (T′ F′ : List ℕ) (μ : Store) → States w I N R T F g I′ N′ R′ T′ F′ μ
           → Stops w g μ (exec₁ n (st I N R T F g)) (exec₂ n (st I′ N′ R′ T′ F′ μ)))
           → (x : Step Graph) (y : Step Store) → step (λ x. x) own m (st I N R T F g) ≡ x → step (λ μ. μ .nodes) take1 m (st I′ N′ R′ T′ F′ μ) ≡ y → Steps w g μ x y
