@@ -1,7 +1,7 @@
 -- A step of a run on the store stands for the step of the definition's run; and so do whole runs.
 -- Here, in order: the pool's computations; the turn of the front; one step; from a moment on; the first moment; a question asked.
 -- Assumes nothing.
-use Prim.Native.Nat.{ℕ, suc, _+_}
+use Prim.Native.Nat.{ℕ, suc, _+_, _≤_}
 use mathlib.Core.Path.{_≡_, refl, sym, ap, subst}
 use mathlib.Core.Bool.{Bool, true, false}
 use mathlib.Core.List.{List, [], _∷_, _++_, map, List·Memᴰ}
@@ -71,6 +71,14 @@ module _ (book : Book) (B : FineBook book) where
   sound-turn (splits cs n) (splits ks n′) (same-splits p) = pools-sound cs ks p
   sound-turn (value b) (value b′) same-value = tt
   sound-turn (T.ended e) (T.ended e′) same-ended = tt
+
+  -- a turn on the store is never lost, so its code never finds itself broken
+  pub turn-known : (k : Kept) (s : Sound book B (k .comp) (k .stack)) (μ : Store) (c : Held) → Stands (k .comp .graph) (heldOf k) μ c → (n : ℕ) → length (k .comp .graph) ≤ n → storeTurn n m μ c ≡ lost → ⊥
+  turn-known k s μ c S n i e =
+      go (Machine.turn m k) (sound-turn (Plain.turn book (k .comp)) (Machine.turn m k) (same-turn book B (k .comp) k refl s)) (subst (After (S .world) μ (Machine.turn m k)) e (store-stands book B k s μ c S n i))
+    where
+      go : (x : Turned Kept) → SoundTurn x → After (S .world) μ x lost → ⊥
+      go x s after-lost = s
 
   module _ (l : Limits) where
     module _ (μ : Store) (k : Kept) (c : Held) (S : Stands (k .comp .graph) (heldOf k) μ c) (ks : List Kept) (cs : List Held) (own : List ℕ) (p : Pool μ ks cs own)

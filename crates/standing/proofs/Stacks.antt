@@ -14,6 +14,7 @@ use Rattle.heap.specs.Place.{Distinct}
 use Rattle.heap.specs.Graph.{Graph, look, follow, firstCall}
 use Rattle.heap.specs.Store.{Store, take1}
 use Rattle.heap.proofs.Laws.Good.{Good}
+use Rattle.heap.proofs.Laws.Few.{few}
 use Rattle.heap.proofs.Laws.Forward.{Call, look-follow}
 use Rattle.heap.proofs.Laws.First.{found}
 use Rattle.heap.proofs.Laws.Bound.{first-bound}
@@ -131,6 +132,18 @@ module _ (book : Book) (B : FineBook book) where
   stacks-distinct (join {k = k} {c = c} {cs = cs} S p a) (s, ss) =
       distinct-append (c .stack) (stacksOf cs) (stack-distinct s S .1) (stacks-distinct p ss) (λ x u o. a x (each-ours (S .holds) (k .stack) (c .stack) (S .helds .stack) x u) (stacks-owned p x o))
 
+  pool-inside : {μ : Store} {ks : List Kept} {cs : List Held} {own : List ℕ} → Pool μ ks cs own → (x : ℕ) → List·Memᴰ x own → x < length (μ .nodes)
+  pool-inside empty x m = absurd (List·Memᴰ·not-nil m)
+  pool-inside {μ} (join {own = own} S p a) x m = go (λ u. pool-inside p x u) (List·Memᴰ·append-cases (S .world .owned) m)
+    where
+      go : (List·Memᴰ x own → x < length (μ .nodes)) → Ours (S .world) x ⊎ List·Memᴰ x own → x < length (μ .nodes)
+      go ih (inl q) = S .holds .inQ x q
+      go ih (inr q) = ih q
+
+  -- all stacks together have no more entries than the store has nodes
+  pub stacks-few : {μ : Store} {ks : List Kept} {cs : List Held} {own : List ℕ} → Pool μ ks cs own → Sounds book B ks → length (stacksOf cs) ≤ length (μ .nodes)
+  stacks-few {μ} {cs = cs} p s = few (length (μ .nodes)) (stacksOf cs) (stacks-distinct p s) (λ x m. pool-inside p x (stacks-owned p x m))
+
   -- the stack within a turn, its top a call: in the computation's own graph, in which nothing is made before the step, it is a chain
   pub record Climbs (g : Graph) (v : ℕ) (μ : Store) (N′ : List ℕ) : Type 0 where
     pub world : World
@@ -146,6 +159,10 @@ module _ (book : Book) (B : FineBook book) where
     climbs-distinct {μ} {N′} C =
         let d = each-distinct (C .holds) (C .top ∷ C .rest) N′ (C .each) (chain-distinct book B g G v (C .top ∷ C .rest) (C .chain)) in
         (d, distinct-of (follow (μ .nodes)) N′ d)
+
+    -- so no more calls are demanded than the store has nodes
+    pub climbs-few : {μ : Store} {N′ : List ℕ} → Climbs g v μ N′ → length N′ ≤ length (μ .nodes)
+    climbs-few {μ} {N′} C = few (length (μ .nodes)) N′ (climbs-distinct C .1) (λ x m. C .holds .inQ x (each-ours (C .holds) (C .top ∷ C .rest) N′ (C .each) x m))
 
     no-demand : (h : ℕ) (N : List ℕ) (rs : List Right) (slots M : List ℕ) (g′ : Graph) → ruleStop g h N rs slots ≡ demand M g′ → ⊥
     unfolding ruleStop
