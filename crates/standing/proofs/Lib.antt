@@ -9,3 +9,6 @@ pub mod Room
 pub mod Moments
 pub mod OnStore
 pub mod Walks
+pub mod Stacks
+pub mod Alternatives
+pub mod Within

@@ -1,7 +1,7 @@
 -- A step of a run on the store stands for the step of the definition's run; and so do whole runs.
 -- Here, in order: the pool's computations; the turn of the front; one step; from a moment on; the first moment; a question asked.
 -- Assumes nothing.
-use Prim.Native.Nat.{ℕ, suc, _+_}
+use Prim.Native.Nat.{ℕ, suc, _+_, _≤_}
 use mathlib.Core.Path.{_≡_, refl, sym, ap, subst}
 use mathlib.Core.Bool.{Bool, true, false}
 use mathlib.Core.List.{List, [], _∷_, _++_, map, List·Memᴰ}
@@ -17,14 +17,14 @@ use Rattle.engine.specs.Compile.{Program, compile}
 use Rattle.engine.specs.Plain as Plain
 use Rattle.engine.specs.Machine as Machine
 use Rattle.engine.specs.Machine.{Held, Kept, heldOf}
-use Rattle.engine.specs.Run.{Limits, turnsOf, nodesOf, resultRecord, Moment, moment, fits, _⊕_, tally, taken, step}
+use Rattle.engine.specs.Run.{Limits, Next, ends, next, turnsOf, nodesOf, resultRecord, Moment, moment, fits, _⊕_, tally, taken, step}
 use Rattle.agreement.proofs.Calls.{FineBook}
 use Rattle.agreement.proofs.Agree.{Sound, Pools, Same, same-goes, same-splits, same-value, same-ended}
 use Rattle.agreement.proofs.Runs.{same-turn}
-use Rattle.standing.specs.Shared.{Took, went, split, wrote, ended, lost, noneLeft, madeIn, storeTurn, StoreMoment, storeMoment, storeTaken, storeStep}
+use Rattle.standing.specs.Shared.{StoreNext, storeEnds, storeNext, Took, went, split, wrote, ended, lost, noneLeft, madeIn, storeTurn, StoreMoment, storeMoment, storeTaken, storeStep}
 use Rattle.standing.specs.Stands.{Ours, Stands, Pool, empty, join, Short, After, after-goes, after-splits, after-value, after-ended, after-lost, after-full}
 use Rattle.standing.specs.Contract.{shape}
-use Rattle.standing.specs.Moments.{Room, Sounds, StandsFor, stands-for, StandsNext, both-end, both-go}
+use Rattle.standing.specs.Moments.{Room, Sounds, shown, shownNext, storeShown, storeShownNext, StandsFor, stands-for, StandsNext, both-end, both-go}
 use Rattle.standing.proofs.Queue.{queue-goes, queue-splits}
 use Rattle.standing.proofs.Turns.{store-stands}
 use Rattle.standing.proofs.Contract.{stands-shape}
@@ -38,6 +38,11 @@ pool-length (join S p a) = ap suc (pool-length p)
 pub pool-shapes : {μ : Store} {ks : List Kept} {cs : List Held} {own : List ℕ} → Pool μ ks cs own → map (λ k. shape (k .comp .graph) (heldOf k)) ks ≡ map (shape (μ .nodes)) cs
 pool-shapes empty = refl
 pool-shapes {μ} (join {k = k} {c = c} S p a) = let e = stands-shape (k .comp .graph) (heldOf k) μ c S in let f = pool-shapes p in cc
+
+-- what stands for one another is shown alike
+pub stands-shown : (book : Book) (B : FineBook book) (l : Limits) (x : Moment Kept) (y : StoreMoment) → StandsFor book B l x y → storeShown y ≡ shown x
+unfolding shown storeShown
+stands-shown book B l (moment ks κ out) (storeMoment μ cs κ′ out′) (stands-for Q ss R) = let e = pool-shapes (Q .pool) in rw e
 
 module _ (book : Book) (B : FineBook book) where
   abbrev m : Program
@@ -66,6 +71,14 @@ module _ (book : Book) (B : FineBook book) where
   sound-turn (splits cs n) (splits ks n′) (same-splits p) = pools-sound cs ks p
   sound-turn (value b) (value b′) same-value = tt
   sound-turn (T.ended e) (T.ended e′) same-ended = tt
+
+  -- a turn on the store is never lost, so its code never finds itself broken
+  pub turn-known : (k : Kept) (s : Sound book B (k .comp) (k .stack)) (μ : Store) (c : Held) → Stands (k .comp .graph) (heldOf k) μ c → (n : ℕ) → length (k .comp .graph) ≤ n → storeTurn n m μ c ≡ lost → ⊥
+  turn-known k s μ c S n i e =
+      go (Machine.turn m k) (sound-turn (Plain.turn book (k .comp)) (Machine.turn m k) (same-turn book B (k .comp) k refl s)) (subst (After (S .world) μ (Machine.turn m k)) e (store-stands book B k s μ c S n i))
+    where
+      go : (x : Turned Kept) → SoundTurn x → After (S .world) μ x lost → ⊥
+      go x s after-lost = s
 
   module _ (l : Limits) where
     module _ (μ : Store) (k : Kept) (c : Held) (S : Stands (k .comp .graph) (heldOf k) μ c) (ks : List Kept) (cs : List Held) (own : List ℕ) (p : Pool μ ks cs own)
@@ -126,3 +139,12 @@ module _ (book : Book) (B : FineBook book) where
             turn true t = rw (t, step, storeStep) (taken-stands μ k c S ks′ cs′ own′ p a ss κ out R (Machine.turn m k) (storeTurn (l .nodes) m μ c)
                 (sound-turn (Plain.turn book (k .comp)) (Machine.turn m k) (same-turn book B (k .comp) k refl s)) (turn-sized m k) (store-stands book B k s μ c S (l .nodes) (room-bound R)))
             turn false t = rw (t, step, storeStep) both-end
+
+    -- and so, numbers and forwards aside, the state after the turn is the state that the definition gives, each computation's stack included
+    pub step-shown : (x : Moment Kept) (y : StoreMoment) → StandsFor book B l x y → storeShownNext (storeStep m l y) ≡ shownNext (step (Machine.turn m) l x)
+    unfolding shownNext storeShownNext
+    step-shown x y S = go (step (Machine.turn m) l x) (storeStep m l y) (step-stands x y S)
+      where
+        go : (u : Next Kept) (v : StoreNext) → StandsNext book B l u v → storeShownNext v ≡ shownNext u
+        go (ends a) (storeEnds a′) both-end = refl
+        go (next x) (storeNext y) (both-go S) = ap next (stands-shown book B l x y S)

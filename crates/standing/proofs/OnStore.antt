@@ -1,7 +1,8 @@
 -- The run on the store gives what the machine's definition gives, for all bytes, limits and lent memory, and any store to begin with.
--- Here, in order: from a moment on; the first moment; a question asked; `on-store`; and so what is read plainly from the book.
+-- Here, in order: a store to begin with; from a moment on; the first moment; a question asked; `on-store`; and so what is read plainly from the book.
 -- Assumes nothing.
 use Prim.Native.Nat.{ℕ, zero, suc}
+use native.Mathlib.Omega.{arith}
 use mathlib.Core.Path.{_≡_, refl, _∙_}
 use mathlib.Core.Bool.{Bool, true, false, _&&_}
 use mathlib.Core.Option.{Option, none, some}
@@ -13,9 +14,10 @@ use Rattle.book.specs.Record.{Got, got, fault}
 use Rattle.book.specs.Reading.{readBook, readQuestion}
 use Rattle.book.specs.Answers.{counts}
 use Rattle.book.proofs.Acceptance.{question-fine}
-use Rattle.heap.specs.Graph.{node}
-use Rattle.heap.specs.Build.{start}
+use Rattle.heap.specs.Graph.{Graph, node}
+use Rattle.heap.specs.Build.{upFrom, start}
 use Rattle.heap.specs.Store.{Store}
+use Rattle.heap.proofs.Laws.Numbers.{upFrom-length, upFrom-mem, upFrom-distinct}
 use Rattle.heap.proofs.Laws.Built.{real-at, real-right}
 use Rattle.heap.proofs.Laws.Copies.{Whole}
 use Rattle.heap.proofs.Laws.Reach.{args-kids}
@@ -34,6 +36,10 @@ use Rattle.standing.specs.Moments.{StandsFor, stands-for, StandsNext, bo
 use Rattle.standing.proofs.Stands.{Poured, pour-stands, pour-none}
 use Rattle.standing.proofs.Room.{room-ready, room-fits, room-short, room-start}
 use Rattle.standing.proofs.Moments.{step-stands}
+
+-- a store that no run has used: its numbers are taken upward from 0
+pub ready-fresh : (l : Limits) (s : Graph) → length s ≡ l .nodes → Ready l (record { nodes = s; free = upFrom 0 (l .nodes) })
+ready-fresh l s e = record { room = upFrom-length (l .nodes) 0; fits = λ x m. (let i = upFrom-mem (l .nodes) 0 x m in omega arith); distinct = upFrom-distinct (l .nodes) 0 }
 
 module _ (book : Book) (B : FineBook book) (l : Limits) where
   abbrev m : Program

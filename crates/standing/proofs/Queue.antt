@@ -1,14 +1,15 @@
 -- The pool after a turn: the others as they were, the front or its alternatives at the back.
 -- Assumes nothing.
 use Prim.Native.Nat.{ℕ}
-use mathlib.Core.Path.{sym, subst}
+use mathlib.Core.Path.{_≡_, refl, sym, subst}
 use mathlib.Core.Logic.{_⊎_, inl, inr}
 use mathlib.Core.List.{List, [], _∷_, _++_, append-assoc, List·Memᴰ, List·Memᴰ·not-nil, List·Memᴰ·append-cases, Memᴰ·append-left, Memᴰ·append-right}
-use Rattle.standing.specs.Stands.{Pool, empty, join, After, after-goes, after-splits, World, Ours, Queue}
-use Rattle.engine.specs.Turn.{goes, splits}
+use Rattle.standing.specs.Stands.{Pool, empty, join, After, after-goes, after-splits, after-value, after-ended, after-lost, after-full, World, Ours, Queue}
+use Rattle.engine.specs.Turn.{Turned, goes, splits}
 use Rattle.engine.specs.Machine.{Kept, Held}
+use Rattle.heap.specs.Graph.{node}
 use Rattle.heap.specs.Store.{Store}
-use Rattle.standing.specs.Shared.{went, split}
+use Rattle.standing.specs.Shared.{Took, went, split, leftBy}
 use Rattle.standing.proofs.Stands.{pool-frame, others}
 
 pub pool-append : {μ : Store} {ks ks′ : List Kept} {cs cs′ : List Held} {own own′ : List ℕ} → Pool μ ks cs own → Pool μ ks′ cs′ own′ → ((x : ℕ) → List·Memᴰ x own → ¬ (List·Memᴰ x own′)) → Pool μ (ks ++ ks′) (cs ++ cs′) (own ++ own′)
@@ -50,3 +51,12 @@ module _ {μ : Store} {ks : List Kept} {cs : List Held} {own : List ℕ} (p : Po
     own = own ++ I .own;
     pool = pool-append (pool-frame p (record { nodes = λ x m. I .outside .nodes x (pool-idle p x m); size = I .outside .size; less = I .outside .less; distinct = I .outside .distinct })) (I .pool) (λ x m n. pool-idle p x m (I .new x n));
   }
+
+  -- the others are untouched: the nodes at their numbers are as they were
+  pub untouched : {x : Turned Kept} {y : Took} → After w μ x y → (k : ℕ) → List·Memᴰ k own → node (leftBy μ y .nodes) k ≡ node (μ .nodes) k
+  untouched (after-goes S new t e) k m = t .nodes k (λ q. apart k q m) (pool-idle p k m)
+  untouched (after-splits I) k m = I .outside .nodes k (pool-idle p k m)
+  untouched after-value k m = refl
+  untouched after-ended k m = refl
+  untouched after-lost k m = refl
+  untouched (after-full s) k m = refl

@@ -11,7 +11,7 @@ use lib.Dec.{leb, leb→le, nleb→lt}
 use lib.ListN.{length, getD, take, drop, set, length-set, length-drop, length-map, List·getD-eq-default}
 use native.Mathlib.Decide.{ℕ-discrete, decLt}
 use lib.Seq.{getD-set-other, getD-set-same, length-take-le}
-use Rattle.standing.specs.Stands.{World, Rel, Dom, Ours, Reps, Holds, Stands, Outside, Pool, empty, join, Spread, Touched, Short, After, after-goes, after-splits, after-value, after-ended, after-lost, after-full}
+use Rattle.standing.specs.Stands.{World, Rel, Dom, Ours, Reps, Holds, Helds, Stands, Outside, Pool, empty, join, Spread, Touched, Short, After, after-goes, after-splits, after-value, after-ended, after-lost, after-full}
 use Rattle.heap.specs.Alike.{Each}
 use Rattle.heap.specs.Place.{Distinct, NotFwd}
 use Rattle.book.specs.Syntax.{Symbol}
@@ -50,7 +50,7 @@ holds-frame {w} {g} {μ} {μ′} H E = record {
   distinct = E .distinct;
 }
 
-still : (w : World) (g : Graph) {μ μ′ : Store} → Elsewhere (Ours (w)) μ μ′ → Wider (Rel (w)) (Rel (w)) (Dom (w)) (Dom (w)) (Ours (w)) (Ours (w)) g g (μ .nodes) (μ′ .nodes)
+pub still : (w : World) (g : Graph) {μ μ′ : Store} → Elsewhere (Ours (w)) μ μ′ → Wider (Rel (w)) (Rel (w)) (Dom (w)) (Dom (w)) (Ours (w)) (Ours (w)) g g (μ .nodes) (μ′ .nodes)
 still w g E = record { same = λ h k r. r; left = λ x p. p; right = λ x q. q; left-node = λ x p. refl; right-node = E .nodes }
 
 -- another computation stays as it is
@@ -116,6 +116,14 @@ module _ {Fine : Symbol → ℕ → Type 0} (w : World) (g : Graph) (μ : Store)
   pub becomes-rep : (x y : ℕ) → Reps w g (μ .nodes) x y → Reps w⁻ g⁻ (set (μ .nodes) k (fwd r′)) x y
   becomes-rep x y e = rep-keep again x y (rep-forward (H .alike) (H .inP) (H .inQ) h k hk r r′ rr apart x y e)
 
+  -- a computation that stood still stands
+  abbrev pub becomes-stands : (c c′ : Held) → Helds w g (μ .nodes) c c′ → Stands g⁻ c μ⁻ c′
+  becomes-stands c c′ a = record {
+    world = w⁻;
+    holds = becomes-holds;
+    helds = record { value = becomes-rep (c .value) (c′ .value) (a .value); askers = becomes-each (c .askers) (c′ .askers) (a .askers); stack = becomes-each (c .stack) (c′ .stack) (a .stack) };
+  }
+
   -- as it is copied, forwards left out
   pub becomes-copy : (v v′ : ℕ) (ws ws′ : List ℕ) → Reps w g (μ .nodes) v v′ → Each (Reps w g (μ .nodes)) ws ws′
       → copy (record { graph = g⁻; value = v; askers = ws }) ≡ copy (record { graph = set (μ .nodes) k (fwd r′); value = v′; askers = ws′ })
@@ -132,7 +140,7 @@ outside-then A B = record {
   distinct = B .distinct;
 }
 
-elsewhere : {Q : ℕ → Type 0} {μ μ′ : Store} → Outside μ μ′ → ((x : ℕ) → List·Memᴰ x (μ .free) → ¬ (Q x)) → Elsewhere Q μ μ′
+pub elsewhere : {Q : ℕ → Type 0} {μ μ′ : Store} → Outside μ μ′ → ((x : ℕ) → List·Memᴰ x (μ .free) → ¬ (Q x)) → Elsewhere Q μ μ′
 elsewhere O f = record { nodes = λ x q. O .nodes x (λ m. f x m q); size = O .size; less = O .less; distinct = O .distinct }
 
 mem-take : (n : ℕ) (l : List ℕ) (x : ℕ) → List·Memᴰ x (take n l) → List·Memᴰ x l
@@ -410,15 +418,8 @@ module _ (Fine : Symbol → ℕ → Type 0) (m : Program) (g : Graph) (v : ℕ) 
   unfolding Machine.finish finish withGraph forward Machine.parted
   finishes x y t (stops-demand o e) = after-lost
   finishes x y t (stops-becomes {h = h} {k = k} {r = r} {r′ = r′} {N = N} {N′ = N′} {g′ = g′} {μ′ = μ′} o hk rr e) =
-      after-goes (record {
-        world = record { φ = set (o .world .φ) h none; owned = o .world .owned };
-        holds = (becomes-holds {Fine = Fine} (o .world) g′ μ′ (o .holds) h k hk r r′ rr t);
-        helds = record {
-          value = (becomes-rep {Fine = Fine} (o .world) g′ μ′ (o .holds) h k hk r r′ rr t v (c′ .value) (rep-keep (o .wider) v (c′ .value) (S .helds .value)));
-          askers = (becomes-each {Fine = Fine} (o .world) g′ μ′ (o .holds) h k hk r r′ rr t ws (c′ .askers) (each-keep (o .wider) ws (c′ .askers) (S .helds .askers)));
-          stack = (becomes-each {Fine = Fine} (o .world) g′ μ′ (o .holds) h k hk r r′ rr t N N′ e);
-        };
-      })
+      after-goes (becomes-stands {Fine = Fine} (o .world) g′ μ′ (o .holds) h k hk r r′ rr t (record { value = v; askers = ws; stack = N }) (record { value = c′ .value; askers = c′ .askers; stack = N′ })
+      (record { value = rep-keep (o .wider) v (c′ .value) (S .helds .value); askers = each-keep (o .wider) ws (c′ .askers) (S .helds .askers); stack = e }))
       (o .new)
       (record {
         nodes = λ x nq nf. nodes′ o k (o .holds .alike .right h k hk) r′ x nq nf;

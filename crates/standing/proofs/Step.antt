@@ -192,18 +192,19 @@ module _ (m : Program) where
   abbrev exec₂ : ℕ → State Store → Stop Store
   exec₂ n = exec (λ μ. μ .nodes) take1 n m
 
+  -- one instruction of the code
+  pub step-alike : (w : World) (I N : List ℕ) (R : Option ℕ) (T F : List ℕ) (g : Graph) (I′ N′ : List ℕ) (R′ : Option ℕ) (T′ F′ : List ℕ) (μ : Store) → States w I N R T F g I′ N′ R′ T′ F′ μ
+      → Steps w g μ (step (λ x. x) own m (st I N R T F g)) (step (λ μ. μ .nodes) take1 m (st I′ N′ R′ T′ F′ μ))
+  unfolding step
+  step-alike w I N R T F g I′ N′ R′ T′ F′ μ S =
+      rw (sym (S .code)) (run-alike m w N R T F g N′ R′ T′ F′ μ (drop (width (decode I)) I) (record { code = refl; stack = S .stack; current = S .current; terms = S .terms; vars = S .vars; holds = S .holds }) (decode I))
+
   exec-alike : (n : ℕ) (w : World) (I N : List ℕ) (R : Option ℕ) (T F : List ℕ) (g : Graph) (I′ N′ : List ℕ) (R′ : Option ℕ) (T′ F′ : List ℕ) (μ : Store) → States w I N R T F g I′ N′ R′ T′ F′ μ
       → Stops w g μ (exec₁ n (st I N R T F g)) (exec₂ n (st I′ N′ R′ T′ F′ μ))
   unfolding exec
   exec-alike zero w I N R T F g I′ N′ R′ T′ F′ μ S = stops-broken
-  exec-alike (suc n) w I N R T F g I′ N′ R′ T′ F′ μ S = go (exec-alike n) (step (λ x. x) own m (st I N R T F g)) (step (λ μ. μ .nodes) take1 m (st I′ N′ R′ T′ F′ μ)) refl refl once
+  exec-alike (suc n) w I N R T F g I′ N′ R′ T′ F′ μ S = go (exec-alike n) (step (λ x. x) own m (st I N R T F g)) (step (λ μ. μ .nodes) take1 m (st I′ N′ R′ T′ F′ μ)) refl refl (step-alike w I N R T F g I′ N′ R′ T′ F′ μ S)
     where
-      J : List ℕ
-      J = drop (width (decode I)) I
-
-      once : Steps w g μ (step (λ x. x) own m (st I N R T F g)) (step (λ μ. μ .nodes) take1 m (st I′ N′ R′ T′ F′ μ))
-      once = unfold step in (rw (sym (S .code)) (run-alike m w N R T F g N′ R′ T′ F′ μ J (record { code = refl; stack = S .stack; current = S .current; terms = S .terms; vars = S .vars; holds = S .holds }) (decode I)))
-
       go : ((w : World) (I N : List ℕ) (R : Option ℕ) (T F : List ℕ) (g : Graph) (I′ N′ : List ℕ) (R′ : Option ℕ) (T′ F′ : List ℕ) (μ : Store) → States w I N R T F g I′ N′ R′ T′ F′ μ
           → Stops w g μ (exec₁ n (st I N R T F g)) (exec₂ n (st I′ N′ R′ T′ F′ μ)))
           → (x : Step Graph) (y : Step Store) → step (λ x. x) own m (st I N R T F g) ≡ x → step (λ μ. μ .nodes) take1 m (st I′ N′ R′ T′ F′ μ) ≡ y → Steps w g μ x y
@@ -264,7 +265,12 @@ pub data Tolds (w : World) (g : Graph) (μ : Store) : Told Graph → Told Store 
   same-stop : {x : Stop Graph} {y : Stop Store} → Stops w g μ x y → Tolds w g μ (stopped x) (stopped y)
 
 module _ (m : Program) (w : World) (g : Graph) (μ : Store) (H : Holds w g μ) where
-  settle-alike : (N N′ : List ℕ) → Each (Reps w g (μ .nodes)) N N′ → Each (Reps w g (μ .nodes)) (settle g N) (settle (μ .nodes) N′)
+  -- numbers that are related stand for one another
+  pub rel-rep : (x y : ℕ) → Rel w x y → Reps w g (μ .nodes) x y
+  rel-rep x y r = let b = reals (Rel w) (Dom w) (Ours w) g (μ .nodes) (node g x) (node (μ .nodes) y) (H .alike .mirror x y r) in
+      record { from = x; to = y; same = r; left = here (H .alike .left x y r) refl (b .0); right = here (H .alike .right x y r) refl (b .1) }
+
+  pub settle-alike : (N N′ : List ℕ) → Each (Reps w g (μ .nodes)) N N′ → Each (Reps w g (μ .nodes)) (settle g N) (settle (μ .nodes) N′)
   unfolding settle
   settle-alike [] [] e = tt
   settle-alike [] (k ∷ N′) e = absurd e
@@ -301,15 +307,11 @@ module _ (m : Program) (w : World) (g : Graph) (μ : Store) (H : Holds w g μ) w
   unfolding turnOn
   turn-alike n c c′ h = on-stack (settle g (c .stack)) (settle (μ .nodes) (c′ .stack)) (settle-alike (c .stack) (c′ .stack) (h .stack))
     where
-      ended : (x y : ℕ) → Rel (w) x y → Reps w g (μ .nodes) x y
-      ended x y r = let b = reals (Rel (w)) (Dom (w)) (Ours (w)) g (μ .nodes) (node g x) (node (μ .nodes) y) (H .alike .mirror x y r) in
-          record { from = x; to = y; same = r; left = here (H .alike .left x y r) refl (b .0); right = here (H .alike .right x y r) refl (b .1) }
-
       on-first : (o o′ : Option ℕ) → Maybe (Rel (w)) o o′ → Tolds w g μ (onFirst (λ x. x) own n m g c o) (onFirst (λ μ. μ .nodes) take1 n m μ c′ o′)
       on-first none none e = unfold onFirst in (rw (bytes-alike n (c .value ∷ c .askers) (c′ .value ∷ c′ .askers) (h .value, h .askers)) same-bytes)
       on-first none (some k) e = absurd e
       on-first (some x) none e = absurd e
-      on-first (some x) (some y) e = unfold onFirst in (same-stop (drive-alike m n w g μ H (x ∷ []) (y ∷ []) (ended x y e, tt)))
+      on-first (some x) (some y) e = unfold onFirst in (same-stop (drive-alike m n w g μ H (x ∷ []) (y ∷ []) (rel-rep x y e, tt)))
 
       on-stack : (N N′ : List ℕ) → Each (Reps w g (μ .nodes)) N N′ → Tolds w g μ (onStack (λ x. x) own n m g c N) (onStack (λ μ. μ .nodes) take1 n m μ c′ N′)
       on-stack [] [] e = unfold onStack in (on-first (firstCall n g (c .value)) (firstCall n (μ .nodes) (c′ .value)) (first-same (H .alike) (H .inP) (H .inQ) n (c .value) (c′ .value) (h .value)))

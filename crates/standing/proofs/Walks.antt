@@ -1,5 +1,5 @@
 -- The part of the store that code walks for a computation that stands there; what walks find in it, with any bound that is at least the store's length.
--- Here, in order: a part with a copy that has no cycle; the part of a computation; its first call and its bytes.
+-- Here, in order: a part with a copy that has no cycle; handles that stand; the part of a computation; its first call and its bytes.
 -- Assumes nothing.
 use Prim.Native.Nat.{ℕ, _≤_, _<_}
 use native.Mathlib.Omega.{arith}
@@ -20,12 +20,12 @@ use Rattle.heap.proofs.Laws.Bound.{Sinks, first-sinks, write-sinks, bytes-sinks
 use Rattle.heap.proofs.Laws.Reach.{seen, gc, swept, gc-length, gc-node, named-at, root-in, kid-in, mem-at}
 use Rattle.heap.proofs.Laws.Copies.{copy-good}
 use Rattle.engine.specs.Machine.{Held}
-use Rattle.standing.specs.Stands.{Stands, Rel, Dom, Ours, Reps}
+use Rattle.standing.specs.Stands.{World, Stands, Holds, Rel, Dom, Ours, Reps}
 use Rattle.standing.specs.Contract.{shape}
 use Rattle.standing.specs.Part.{rootsOf, Handle, Part}
 use Rattle.standing.proofs.Contract.{stands-shape}
 
-mem-map-to : (f : ℕ → ℕ) (l : List ℕ) (x : ℕ) → List·Memᴰ x l → List·Memᴰ (f x) (map f l)
+pub mem-map-to : (f : ℕ → ℕ) (l : List ℕ) (x : ℕ) → List·Memᴰ x l → List·Memᴰ (f x) (map f l)
 mem-map-to f [] x m = absurd (List·Memᴰ·not-nil m)
 mem-map-to f (y ∷ l) x m = go (mem-map-to f l x) (List·Memᴰ·cases-cons m)
   where
@@ -93,45 +93,44 @@ module _ {Fine : Symbol → ℕ → Type 0} (s : Graph) (own : List ℕ) (X : �
         omega arith);
   }
 
--- a computation that stands in the store
-module _ {g : Graph} {c : Held} {μ : Store} {c′ : Held} (S : Stands g c μ c′) where
-  abbrev pub own : List ℕ
-  own = S .world .owned
-
-  abbrev pub s : Graph
+-- handles that stand for handles of a graph that the store holds
+module _ {w : World} {g : Graph} {μ : Store} (H : Holds w g μ) where
+  abbrev s : Graph
   s = μ .nodes
 
   -- a number that is read for a handle
   abbrev pub Read : ℕ → Type 0
-  Read k = (h : ℕ) × Rel (S .world) h k
+  Read k = (h : ℕ) × Rel w h k
 
-  abbrev R₁ : ℕ → ℕ → Type 0
-  R₁ = Reps (S .world) g s
+  ends-in : (h k : ℕ) → Reps w g s h k → Read (follow s k) × Leads (Ours w) s (follow s k) k
+  ends-in h k r = ((follow g h, rep-follow (H .alike) h k r), rw (leads-follow (Ours w) s (r .to) (r .right)) (r .right))
 
-  pub stands-roots : Each R₁ (rootsOf c) (rootsOf c′)
-  stands-roots = (S .helds .value, each-append R₁ (c .askers) (c′ .askers) (c .stack) (c′ .stack) (S .helds .askers) (S .helds .stack))
-
-  ends-in : (h k : ℕ) → R₁ h k → Read (follow s k) × Leads (Ours (S .world)) s (follow s k) k
-  ends-in h k r = ((follow g h, rep-follow (S .holds .alike) h k r), rw (leads-follow (Ours (S .world)) s (r .to) (r .right)) (r .right))
-
-  each-in : (hs ks : List ℕ) → Each R₁ hs ks → (k : ℕ) → List·Memᴰ k ks → Read (follow s k) × Leads (Ours (S .world)) s (follow s k) k
+  each-in : (hs ks : List ℕ) → Each (Reps w g s) hs ks → (k : ℕ) → List·Memᴰ k ks → Read (follow s k) × Leads (Ours w) s (follow s k) k
   each-in [] [] e k m = absurd (List·Memᴰ·not-nil m)
   each-in [] (j ∷ ks) e k m = absurd e
   each-in (h ∷ hs) [] e k m = absurd e
   each-in (h ∷ hs) (j ∷ ks) (e, es) k m = go (each-in hs ks es k) (List·Memᴰ·cases-cons m)
     where
-      go : (List·Memᴰ k ks → Read (follow s k) × Leads (Ours (S .world)) s (follow s k) k) → (k ≡ j) ⊎ List·Memᴰ k ks → Read (follow s k) × Leads (Ours (S .world)) s (follow s k) k
+      go : (List·Memᴰ k ks → Read (follow s k) × Leads (Ours w) s (follow s k) k) → (k ≡ j) ⊎ List·Memᴰ k ks → Read (follow s k) × Leads (Ours w) s (follow s k) k
       go ih (inl q) = rw q (ends-in h j e)
-      go ih (inr w) = ih w
+      go ih (inr u) = ih u
 
-  pub stands-rooted : Rooted s (Ours (S .world)) Read (rootsOf c′)
-  stands-rooted = record {
-    inside = λ x r. S .holds .inQ x (S .holds .alike .right (r .0) x (r .1));
-    real = λ x r. reals (Rel (S .world)) (Dom (S .world)) (Ours (S .world)) g s (node g (r .0)) (node s x) (S .holds .alike .mirror (r .0) x (r .1)) .1;
-    into = λ x r. S .holds .alike .right (r .0) x (r .1);
-    under = λ x h r m. each-in (args (node g (r .0))) (args (node s x)) (args-alike (S .holds .alike) (S .holds .inP) (S .holds .inQ) (node g (r .0)) (node s x) (S .holds .alike .mirror (r .0) x (r .1))) h m;
-    rooted = each-in (rootsOf c) (rootsOf c′) stands-roots;
+  pub holds-rooted : (hs ks : List ℕ) → Each (Reps w g s) hs ks → Rooted s (Ours w) Read ks
+  holds-rooted hs ks e = record {
+    inside = λ x r. H .inQ x (H .alike .right (r .0) x (r .1));
+    real = λ x r. reals (Rel w) (Dom w) (Ours w) g s (node g (r .0)) (node s x) (H .alike .mirror (r .0) x (r .1)) .1;
+    into = λ x r. H .alike .right (r .0) x (r .1);
+    under = λ x h r m. each-in (args (node g (r .0))) (args (node s x)) (args-alike (H .alike) (H .inP) (H .inQ) (node g (r .0)) (node s x) (H .alike .mirror (r .0) x (r .1))) h m;
+    rooted = each-in hs ks e;
   }
+
+-- a computation that stands in the store
+module _ {g : Graph} {c : Held} {μ : Store} {c′ : Held} (S : Stands g c μ c′) where
+  abbrev R₁ : ℕ → ℕ → Type 0
+  R₁ = Reps (S .world) g (μ .nodes)
+
+  stands-roots : Each R₁ (rootsOf c) (rootsOf c′)
+  stands-roots = (S .helds .value, each-append R₁ (c .askers) (c′ .askers) (c .stack) (c′ .stack) (S .helds .askers) (S .helds .stack))
 
   left-in : (hs ks : List ℕ) → Each R₁ hs ks → (h : ℕ) → List·Memᴰ h hs → h < length g
   left-in [] [] e h m = absurd (List·Memᴰ·not-nil m)
@@ -144,12 +143,12 @@ module _ {g : Graph} {c : Held} {μ : Store} {c′ : Held} (S : Stands g c μ c�
       go ih (inr w) = ih w
 
   -- its part of the store
-  pub stands-part : {Fine : Symbol → ℕ → Type 0} → Good Fine g → Part s own (rootsOf c′)
+  pub stands-part : {Fine : Symbol → ℕ → Type 0} → Good Fine g → Part (μ .nodes) (S .world .owned) (rootsOf c′)
   unfolding shape copy
   stands-part {Fine} G =
       let a = copy-good G (rootsOf c) (left-in (rootsOf c) (rootsOf c′) stands-roots) in
       let e = ap (λ (z : Comp × ℕ). z .0 .graph) (stands-shape g c μ c′ S) in
-      part-of s own Read (rootsOf c′) (S .holds .inQ) stands-rooted (subst (Good Fine) e a)
+      part-of (μ .nodes) (S .world .owned) (Read (S .holds)) (rootsOf c′) (S .holds .inQ) (holds-rooted (S .holds) (rootsOf c) (rootsOf c′) stands-roots) (subst (Good Fine) e a)
 
 -- what walks find in a part
 module _ {s : Graph} {own roots : List ℕ} (P : Part s own roots) where

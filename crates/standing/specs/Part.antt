@@ -1,10 +1,10 @@
 -- The part of the store that code walks for one computation.
--- Here, in order: its roots; its handles; what code may rely on when it walks them.
+-- Here, in order: its roots; the stacks of all; its handles; what code may rely on when it walks them.
 -- Not here: that a computation that stands in the store has such a part, and what walks find there (proofs, Walks).
 -- Assumes nothing.
 use Prim.Native.Nat.{ℕ, _≤_, _<_}
 use mathlib.Core.Path.{_≡_}
-use mathlib.Core.List.{List, _∷_, _++_, List·Memᴰ}
+use mathlib.Core.List.{List, [], _∷_, _++_, List·Memᴰ}
 use lib.ListN.{length}
 use Rattle.book.specs.Syntax.{Symbol}
 use Rattle.heap.specs.Graph.{Graph, cell, fwd, node, deref, follow, look, reach}
@@ -14,6 +14,11 @@ use Rattle.engine.specs.Machine.{Held}
 -- the handles that a computation is read from
 abbrev pub rootsOf : Held → List ℕ
 rootsOf c = c .value ∷ (c .askers ++ c .stack)
+
+-- the stacks of computations, one behind the other
+abbrev pub stacksOf : List Held → List ℕ
+stacksOf [] = []
+stacksOf (c ∷ cs) = c .stack ++ stacksOf cs
 
 -- k is a handle of the part: its forwards are numbers of the computation, and they end at a node that is reachable from the roots
 pub record Handle (s : Graph) (own roots : List ℕ) (k : ℕ) : Type 0 where

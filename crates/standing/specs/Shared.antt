@@ -47,6 +47,15 @@ pub data Took : Type 0 where
   ended : Ending → Took
   lost noneLeft : Took
 
+-- the store that a turn leaves: as it was, unless the computation goes on or has alternatives
+abbrev pub leftBy : Store → Took → Store
+leftBy μ (went μ′ c) = μ′
+leftBy μ (split μ′ cs) = μ′
+leftBy μ (wrote b) = μ
+leftBy μ (ended e) = μ
+leftBy μ lost = μ
+leftBy μ noneLeft = μ
+
 -- the step that the end of the code does
 unfoldable pub finish : Held → Stop Store → Took
 finish c (demand N μ) = lost
