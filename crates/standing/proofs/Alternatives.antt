@@ -2,16 +2,16 @@
 -- Here, in order: a split that stands; each copy's part of the store; a split after one copy was laid down; the split that a turn comes to.
 -- Assumes nothing.
 use Prim.Native.Nat.{ℕ, _≤_}
-use mathlib.Core.Path.{_≡_, refl, sym, ap, _∙_, subst}
+use mathlib.Core.Path.{_≡_, refl, sym, _∙_, subst}
 use mathlib.Core.Option.{some}
 use mathlib.Core.List.{List, [], _∷_, append-nil, List·Memᴰ, List·Memᴰ·head, List·Memᴰ·tail}
 use lib.ListN.{length, set}
 use Rattle.book.specs.Syntax.{Book, Symbol}
 use Rattle.heap.specs.Alike.{Each}
-use Rattle.heap.specs.Graph.{Graph, fwd, Comp, copy}
+use Rattle.heap.specs.Graph.{Graph, fwd, copy}
 use Rattle.heap.specs.Store.{Store, take1}
 use Rattle.heap.proofs.Laws.Alike.{Wider, rep-keep, each-keep}
-use Rattle.heap.proofs.Laws.Copies.{Whole, copy-whole, copy-solid-of}
+use Rattle.heap.proofs.Laws.Copies.{Whole}
 use Rattle.engine.specs.Turn.{forward}
 use Rattle.engine.specs.Compile.{compile}
 use Rattle.engine.specs.Machine.{Held, Kept, heldOf, Stop, parts, Told, stopped, turnOn, own}
@@ -23,7 +23,7 @@ use Rattle.standing.specs.Stands.{World, Rel, Dom, Ours, Reps, Holds, St
 use Rattle.standing.specs.Part.{Part}
 use Rattle.standing.proofs.Grows.{Stops, stops-parts}
 use Rattle.standing.proofs.Step.{Tolds, same-stop, turn-alike}
-use Rattle.standing.proofs.Stands.{Elsewhere, becomes-stands, becomes-copy, holds-frame, still, elsewhere, Poured, pour-stands}
+use Rattle.standing.proofs.Stands.{Elsewhere, becomes-stands, copy-poured, holds-frame, still, elsewhere}
 use Rattle.standing.proofs.Walks.{stands-part}
 
 -- node k of the store is to become each of the terms in turn, for the computation c: so it is in some graph of its own, which then has no cycle
@@ -66,11 +66,7 @@ module _ {Fine : Symbol → ℕ → Type 0} (μ : Store) (c : Held) (k r : ℕ) 
       go (t ∷ ts) (e, es) W =
           let w = S .world in
           let g = S .graph in
-          let C : Comp = record { graph = set g (S .call) (fwd t); value = S .value; askers = S .askers } in
-          let W₁ : Whole Fine C = W t (List·Memᴰ·head refl) in
-          let eq = becomes-copy {Fine = Fine} w g μ (S .holds) (S .call) k (S .same) t r e (W₁ .good) (S .value) (c .value) (S .askers) (c .askers) (S .values) (S .asked) in
-          let Y = copy-whole Fine C W₁ in
-          let Z : Poured (copy C) μ μ′ d = pour-stands (copy C) (copy-solid-of Fine C W₁) (Y .value-in) (Y .askers-in) μ (S .holds .distinct) (S .holds .fits) μ′ d (ap (λ (D : Comp). pour D μ) eq ∙ q) in
+          let Z = copy-poured {Fine = Fine} w g μ (S .holds) (S .call) k (S .same) t r e (S .value) (c .value) (S .askers) (c .askers) (S .values) (S .asked) (W t (List·Memᴰ·head refl)) μ′ d q in
           let E : Elsewhere (Ours w) μ μ′ = elsewhere (Z .outside) (λ x m. S .holds .idle x m) in
           let K : Wider (Rel w) (Rel w) (Dom w) (Dom w) (Ours w) (Ours w) g g (μ .nodes) (μ′ .nodes) = still w g E in
           record {

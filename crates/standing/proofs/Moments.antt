@@ -1,5 +1,5 @@
--- A step of a run on the store stands for the step of the definition's run; and so do whole runs.
--- Here, in order: the pool's computations; the turn of the front; one step; from a moment on; the first moment; a question asked.
+-- A step of a run on the store stands for the step of the definition's run.
+-- Here, in order: the pool's computations; what is shown; sound computations; no turn is lost; the turn of the front; one step, and what it shows.
 -- Assumes nothing.
 use Prim.Native.Nat.{ℕ, suc, _+_, _≤_}
 use mathlib.Core.Path.{_≡_, refl, sym, ap, subst}

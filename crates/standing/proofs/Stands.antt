@@ -1,6 +1,7 @@
--- A computation of the definition stands in the store; a turn keeps it so, and leaves the others alone.
+-- A computation of the definition stands in the store: what keeps it so, and leaves the others alone.
+-- Here, in order: a store changed elsewhere; a call replaced; only free numbers written; parts of lists; a computation laid down; one alternative's copy; the pool; all alternatives; the others.
 -- Assumes nothing.
-use Prim.Native.Nat.{ℕ, zero, suc, _+_, _-_, _≤_, _<_}
+use Prim.Native.Nat.{ℕ, zero, suc, _+_, _≤_, _<_}
 use native.Mathlib.Omega.{arith}
 use mathlib.Core.Path.{_≡_, refl, sym, ap, _∙_, subst}
 use mathlib.Core.Logic.{_⊎_, inl, inr, _≢_}
@@ -11,11 +12,11 @@ use lib.Dec.{leb, leb→le, nleb→lt}
 use lib.ListN.{length, getD, take, drop, set, length-set, length-drop, length-map, List·getD-eq-default}
 use native.Mathlib.Decide.{ℕ-discrete, decLt}
 use lib.Seq.{getD-set-other, getD-set-same, length-take-le}
-use Rattle.standing.specs.Stands.{World, Rel, Dom, Ours, Reps, Holds, Helds, Stands, Outside, Pool, empty, join, Spread, Touched, Short, After, after-goes, after-splits, after-value, after-ended, after-lost, after-full}
+use Rattle.standing.specs.Stands.{World, Rel, Dom, Ours, Reps, Holds, Helds, Stands, Outside, Pool, empty, join, Spread, Touched}
 use Rattle.heap.specs.Alike.{Each}
 use Rattle.heap.specs.Place.{Distinct, NotFwd}
 use Rattle.book.specs.Syntax.{Symbol}
-use Rattle.heap.specs.Graph.{Graph, var, fwd, node, Comp, copy}
+use Rattle.heap.specs.Graph.{Graph, fwd, node, Comp, copy}
 use Rattle.heap.proofs.Laws.Good.{Good}
 use Rattle.heap.proofs.Laws.Alike.{Wider, rep-keep, each-keep, rep-forward, each-forward, alike-forward, alike-frame, alike-same, leads-apart, reals}
 use Rattle.heap.proofs.Laws.Shape.{copy-alike}
@@ -23,14 +24,9 @@ use Rattle.heap.proofs.Laws.Pour.{laid-other, laid-length, Solid, At, In, On, p
 use Rattle.heap.proofs.Laws.Reach.{map-at}
 use Rattle.heap.proofs.Laws.Copies.{Whole, copy-whole, copy-solid-of}
 use Rattle.engine.specs.Turn.{value, forward, alternatives, sizes}
-use Rattle.engine.specs.Compile.{Program}
-use Rattle.engine.specs.Machine.{Kept, fromStart, withGraph, turnWithin, turnOn, Stop, demand, becomes, parts, fails, misfits, broken, full, Held, Told, stopped, own}
-use Rattle.engine.specs.Machine as Machine
-use Rattle.heap.specs.Store.{Store, take1, laid}
-use Rattle.standing.specs.Shared.{pour, pourAll, finish, storeTurn}
-use Rattle.agreement.proofs.Agree.{Tidy}
-use Rattle.standing.proofs.Grows.{Grows, Stops, stops-demand, stops-becomes, stops-parts, stops-fails, stops-misfits, stops-broken, stops-full, Over}
-use Rattle.standing.proofs.Step.{Tolds, same-bytes, same-stop, turn-alike}
+use Rattle.engine.specs.Machine.{Kept, fromStart, Held, own}
+use Rattle.heap.specs.Store.{Store, laid}
+use Rattle.standing.specs.Shared.{pour, pourAll}
 
 -- the store has changed only where nothing of w is, and its free numbers are still nobody's
 pub record Elsewhere (Q : ℕ → Type 0) (μ μ′ : Store) : Type 0 where
@@ -132,7 +128,7 @@ module _ {Fine : Symbol → ℕ → Type 0} (w : World) (g : Graph) (μ : Store)
 outside-none : (μ : Store) → Distinct (μ .free) → Outside μ μ
 outside-none μ d = record { nodes = λ x n. refl; size = refl; less = λ x m. m; distinct = d }
 
-outside-then : {μ μ′ μ″ : Store} → Outside μ μ′ → Outside μ′ μ″ → Outside μ μ″
+pub outside-then : {μ μ′ μ″ : Store} → Outside μ μ′ → Outside μ′ μ″ → Outside μ μ″
 outside-then A B = record {
   nodes = λ x n. B .nodes x (λ m. n (A .less x m)) ∙ A .nodes x n;
   size = B .size ∙ A .size;
@@ -268,6 +264,24 @@ pour-stands C S v a μ d f μ′ c e = go (leb (length (C .graph)) (length (μ .
         let w : _≡_ {A = Store × Held} (μ₁, c₁) (μ′, c) = cc in
         subst (λ (p : Store × Held). Poured C μ (p .0) (p .1)) w (poured₁ (leb→le n (length (μ .free)) (rw q tt)))
 
+-- a copy for one alternative, laid down
+module _ {Fine : Symbol → ℕ → Type 0} (w : World) (g : Graph) (μ : Store) (H : Holds w g μ) (h k : ℕ) (hk : Rel w h k) (r r′ : ℕ) (rr : Reps w g (μ .nodes) r r′) (v v′ : ℕ) (ws ws′ : List ℕ) (a : Reps w g (μ .nodes) v v′) (b : Each (Reps w g (μ .nodes)) ws ws′)
+    (W : Whole Fine (record { graph = forward g h r; value = v; askers = ws })) where
+  abbrev C₁ : Comp
+  C₁ = record { graph = forward g h r; value = v; askers = ws }
+
+  abbrev C₂ : Comp
+  C₂ = record { graph = forward (μ .nodes) k r′; value = v′; askers = ws′ }
+
+  copy-same : copy C₁ ≡ copy C₂
+  unfolding forward
+  copy-same = becomes-copy {Fine = Fine} w g μ H h k hk r r′ rr (W .good) v v′ ws ws′ a b
+
+  pub copy-poured : (μ′ : Store) (d : Held) → pour (copy C₂) μ ≡ some (μ′, d) → Poured (copy C₁) μ μ′ d
+  copy-poured μ′ d q =
+      let B = copy-whole Fine C₁ W in
+      pour-stands (copy C₁) (copy-solid-of Fine C₁ W) (B .value-in) (B .askers-in) μ (H .distinct) (H .fits) μ′ d (ap (λ (C : Comp). pour C μ) copy-same ∙ q)
+
 pub pool-frame : {μ μ′ : Store} {ks : List Kept} {cs : List Held} {own : List ℕ} → Pool μ ks cs own → Elsewhere (λ x. List·Memᴰ x own) μ μ′ → Pool μ′ ks cs own
 unfolding stands-frame
 pool-frame empty E = empty
@@ -304,7 +318,7 @@ module _ (Fine : Symbol → ℕ → Type 0) (w : World) (g : Graph) (v v′ : �
   abbrev there′ : Held
   there′ = record { value = v′; askers = ws′; stack = st′ }
 
-  spread : (rs rs′ : List ℕ) (μ : Store) → Holds w g μ → Reps w g (μ .nodes) v v′ → Each (Reps w g (μ .nodes)) ws ws′ → Each (Reps w g (μ .nodes)) rs rs′
+  pub spread : (rs rs′ : List ℕ) (μ : Store) → Holds w g μ → Reps w g (μ .nodes) v v′ → Each (Reps w g (μ .nodes)) ws ws′ → Each (Reps w g (μ .nodes)) rs rs′
       → ((r : ℕ) → List·Memᴰ r rs → Whole Fine (record { graph = forward g h r; value = v; askers = ws })) → (μ″ : Store) (cs : List Held) → pourAll μ there′ k rs′ ≡ some (μ″, cs) → Spread (sizes (alternatives here′ h rs)) μ μ″ (map fromStart (alternatives here′ h rs)) cs
   unfolding sizes alternatives fromStart stands-frame forward
   spread [] [] μ H a b e W μ″ cs q =
@@ -316,12 +330,8 @@ module _ (Fine : Symbol → ℕ → Type 0) (w : World) (g : Graph) (v v′ : �
   spread (r ∷ rs) (r′ ∷ rs′) μ H a b (e, es) W μ″ cs q =
       let D = pour-some μ there′ k r′ rs′ μ″ cs q in
       let μ₁ = D .first .0 in
-      let W₁ = W r (List·Memᴰ·head refl) in
-      let eq = becomes-copy {Fine = Fine} w g μ H h k hk r r′ e (W₁ .good) v v′ ws ws′ a b in
-      let one : pour (copy (record { graph = forward g h r; value = v; askers = ws })) μ ≡ some (D .first) = ap (λ (C : Comp). pour C μ) eq ∙ D .one in
       let C : Comp = copy (record { graph = forward g h r; value = v; askers = ws }) in
-      let B = copy-whole Fine (record { graph = forward g h r; value = v; askers = ws }) W₁ in
-      let Z = pour-stands C (copy-solid-of Fine (record { graph = forward g h r; value = v; askers = ws }) W₁) (B .value-in) (B .askers-in) μ (H .distinct) (H .fits) μ₁ (D .first .1) one in
+      let Z = copy-poured {Fine = Fine} w g μ H h k hk r r′ e v v′ ws ws′ a b (W r (List·Memᴰ·head refl)) μ₁ (D .first .1) (D .one) in
       let E : Elsewhere (Ours (w)) μ μ₁ = elsewhere (Z .outside) (λ x m. H .idle x m) in
       let K : Wider (Rel (w)) (Rel (w)) (Dom (w)) (Dom (w)) (Ours (w)) (Ours (w)) g g (μ .nodes) (μ₁ .nodes) = still w g E in
       let I = spread rs rs′ μ₁ (holds-frame H E) (rep-keep K v v′ a) (each-keep K ws ws′ b) (each-keep K rs rs′ es) (λ x m. W x (List·Memᴰ·tail m)) (D .then .0) (D .then .1) (D .more) in
@@ -360,7 +370,7 @@ pour-rest μ c h k ks p e q = go (pourAll (p .0) c h ks) refl
 
 module _ (Fine : Symbol → ℕ → Type 0) (w : World) (g : Graph) (v v′ : ℕ) (ws ws′ : List ℕ) (st′ : List ℕ) (h k : ℕ) (hk : Rel (w) h k) where
   -- the copies do not fit
-  spread-full : (rs rs′ : List ℕ) (μ : Store) → Holds w g μ → Reps w g (μ .nodes) v v′ → Each (Reps w g (μ .nodes)) ws ws′ → Each (Reps w g (μ .nodes)) rs rs′
+  pub spread-full : (rs rs′ : List ℕ) (μ : Store) → Holds w g μ → Reps w g (μ .nodes) v v′ → Each (Reps w g (μ .nodes)) ws ws′ → Each (Reps w g (μ .nodes)) rs rs′
       → ((r : ℕ) → List·Memᴰ r rs → Whole Fine (record { graph = forward g h r; value = v; askers = ws })) → pourAll μ (record { value = v′; askers = ws′; stack = st′ }) k rs′ ≡ none
       → length (μ .free) < sizes (alternatives (record { graph = g; value = v; askers = ws }) h rs)
   unfolding alternatives sizes forward
@@ -369,105 +379,29 @@ module _ (Fine : Symbol → ℕ → Type 0) (w : World) (g : Graph) (v v′ : �
   spread-full (r ∷ rs) [] μ H a b e W q = absurd e
   spread-full (r ∷ rs) (r′ ∷ rs′) μ H a b (e, es) W q =
       go (λ μ₁ E. (let K : Wider (Rel (w)) (Rel (w)) (Dom (w)) (Dom (w)) (Ours (w)) (Ours (w)) g g (μ .nodes) (μ₁ .nodes) = still w g E in
-      spread-full rs rs′ μ₁ (holds-frame H E) (rep-keep K v v′ a) (each-keep K ws ws′ b) (each-keep K rs rs′ es) (λ x m. W x (List·Memᴰ·tail m)))) (pour C μ) refl
+      spread-full rs rs′ μ₁ (holds-frame H E) (rep-keep K v v′ a) (each-keep K ws ws′ b) (each-keep K rs rs′ es) (λ x m. W x (List·Memᴰ·tail m)))) (pour C₃ μ) refl
     where
-      c₁ : Comp
-      c₁ = record { graph = set g h (fwd r); value = v; askers = ws }
-
-      C : Comp
-      C = copy c₁
-
-      W₁ : Whole Fine c₁
+      W₁ : Whole Fine (record { graph = forward g h r; value = v; askers = ws })
       W₁ = W r (List·Memᴰ·head refl)
 
-      B : Whole Fine C
-      B = copy-whole Fine c₁ W₁
-
-      c₂ : Held
-      c₂ = record { value = v′; askers = ws′; stack = st′ }
-
-      eq : C ≡ copy (record { graph = forward (μ .nodes) k r′; value = v′; askers = ws′ })
-      eq = becomes-copy {Fine = Fine} w g μ H h k hk r r′ e (W₁ .good) v v′ ws ws′ a b
+      C₃ : Comp
+      C₃ = copy (record { graph = forward (μ .nodes) k r′; value = v′; askers = ws′ })
 
       rest : List Comp
       rest = alternatives (record { graph = g; value = v; askers = ws }) h rs
 
-      go : ((μ₁ : Store) → Elsewhere (Ours (w)) μ μ₁ → pourAll μ₁ c₂ k rs′ ≡ none → length (μ₁ .free) < sizes rest) → (o : Option (Store × Held)) → pour C μ ≡ o → length (μ .free) < length (C .graph) + sizes rest
-      go ih none p = let i = pour-none C μ p in omega arith
+      size : length (copy (record { graph = forward g h r; value = v; askers = ws }) .graph) ≡ length (C₃ .graph)
+      size = ap (λ (C : Comp). length (C .graph)) (copy-same {Fine = Fine} w g μ H h k hk r r′ e v v′ ws ws′ a b W₁)
+
+      go : ((μ₁ : Store) → Elsewhere (Ours (w)) μ μ₁ → pourAll μ₁ (record { value = v′; askers = ws′; stack = st′ }) k rs′ ≡ none → length (μ₁ .free) < sizes rest) → (o : Option (Store × Held)) → pour C₃ μ ≡ o
+          → length (μ .free) < length (copy (record { graph = forward g h r; value = v; askers = ws }) .graph) + sizes rest
+      go ih none p = let i = pour-none C₃ μ p in let n = size in omega arith
       go ih (some x) p =
-          let Z = pour-stands C (copy-solid-of Fine c₁ W₁) (B .value-in) (B .askers-in) μ (H .distinct) (H .fits) (x .0) (x .1) p in
-          let i = ih (x .0) (elsewhere (Z .outside) (λ y m. H .idle y m)) (pour-rest μ c₂ k r′ rs′ x (ap (λ (D : Comp). pour D μ) (sym eq) ∙ p) q) in
+          let Z = copy-poured {Fine = Fine} w g μ H h k hk r r′ e v v′ ws ws′ a b W₁ (x .0) (x .1) p in
+          let i = ih (x .0) (elsewhere (Z .outside) (λ y m. H .idle y m)) (pour-rest μ (record { value = v′; askers = ws′; stack = st′ }) k r′ rs′ x p q) in
           let j = Z .count in
           omega arith
 
 -- the others are left alone
 pub others : {Q : ℕ → Type 0} {μ μ′ : Store} {ks : List Kept} {cs : List Held} {own : List ℕ} → Touched Q μ μ′ → Pool μ ks cs own → ((x : ℕ) → List·Memᴰ x own → ¬ (Q x)) → ((x : ℕ) → List·Memᴰ x own → ¬ (List·Memᴰ x (μ .free))) → Pool μ′ ks cs own
 others T p a b = pool-frame p (record { nodes = λ x o. T .nodes x (a x o) (b x o); size = T .size; less = T .less; distinct = T .distinct })
-
-module _ (Fine : Symbol → ℕ → Type 0) (m : Program) (g : Graph) (v : ℕ) (ws N₀ : List ℕ) (μ : Store) (c′ : Held) (S : Stands g (record { value = v; askers = ws; stack = N₀ }) μ c′) where
-  abbrev w : World
-  w = S .world
-
-  abbrev c₀ : Comp
-  c₀ = record { graph = g; value = v; askers = ws }
-
-  grown-outside : {g′ : Graph} {μ′ : Store} → Grows w g μ g′ μ′ → Outside μ μ′
-  grown-outside o = record { nodes = o .frame; size = o .same-length; less = o .less; distinct = o .holds .distinct }
-
-  finishes : (x : Stop Graph) (y : Stop Store) → Tidy Fine c₀ x → Stops w g μ x y → After w μ (Machine.finish c₀ x) (finish c′ y)
-  unfolding Machine.finish finish withGraph forward Machine.parted
-  finishes x y t (stops-demand o e) = after-lost
-  finishes x y t (stops-becomes {h = h} {k = k} {r = r} {r′ = r′} {N = N} {N′ = N′} {g′ = g′} {μ′ = μ′} o hk rr e) =
-      after-goes (becomes-stands {Fine = Fine} (o .world) g′ μ′ (o .holds) h k hk r r′ rr t (record { value = v; askers = ws; stack = N }) (record { value = c′ .value; askers = c′ .askers; stack = N′ })
-      (record { value = rep-keep (o .wider) v (c′ .value) (S .helds .value); askers = each-keep (o .wider) ws (c′ .askers) (S .helds .askers); stack = e }))
-      (o .new)
-      (record {
-        nodes = λ x nq nf. nodes′ o k (o .holds .alike .right h k hk) r′ x nq nf;
-        size = (length-set (μ′ .nodes) k (fwd r′) ∙ o .same-length);
-        less = o .less;
-        distinct = o .holds .distinct;
-      })
-      (let i = o .count in let j = o .longer in let z : length g′ - length g + length (μ′ .free) ≡ length (μ .free) = omega arith in z)
-    where
-      nodes′ : {g′ : Graph} {μ′ : Store} (o : Grows w g μ g′ μ′) (k : ℕ) → Ours (o .world) k → (r′ x : ℕ) → ¬ (Ours (w) x) → ¬ (List·Memᴰ x (μ .free)) → node (forward (μ′ .nodes) k r′) x ≡ node (μ .nodes) x
-      nodes′ {μ′ = μ′} o k q r′ x nq nf = (getD-set-other (μ′ .nodes) k x (fwd r′) var (λ e. both (o .new k q) e) ∙ o .frame x nf)
-        where
-          both : Ours (w) k ⊎ List·Memᴰ k (μ .free) → x ≡ k → ⊥
-          both (inl a) e = nq (subst (Ours (w)) (sym e) a)
-          both (inr a) e = nf (subst (λ (z : ℕ). List·Memᴰ z (μ .free)) (sym e) a)
-  finishes x y t (stops-parts {h = h} {k = k} {ks = ks} {ks′ = ks′} {g′ = g′} {μ′ = μ′} o hk e) = go (pourAll μ′ c′ k ks′) refl
-    where
-      go : (z : Option (Store × List Held)) → pourAll μ′ c′ k ks′ ≡ z → After w μ (Machine.finish c₀ (parts h ks g′)) (finish c′ (parts k ks′ μ′))
-      go none q =
-          let i = spread-full Fine (o .world) g′ v (c′ .value) ws (c′ .askers) (c′ .stack) h k hk ks ks′ μ′ (o .holds) (rep-keep (o .wider) v (c′ .value) (S .helds .value)) (each-keep (o .wider) ws (c′ .askers) (S .helds .askers)) e t q in
-          let j = o .count in let l = o .longer in
-          rw (q, finish) (after-full {x = Machine.finish c₀ (parts h ks g′)} (omega arith))
-      go (some p) q =
-          let I = spread Fine (o .world) g′ v (c′ .value) ws (c′ .askers) (c′ .stack) h k hk ks ks′ μ′ (o .holds) (rep-keep (o .wider) v (c′ .value) (S .helds .value)) (each-keep (o .wider) ws (c′ .askers) (S .helds .askers)) e t (p .0) (p .1) q in
-          rw (q, finish) ((after-splits {n = length g′ - length g + sizes (alternatives (record { graph = g′; value = v; askers = ws }) h ks)} (record { own = I .own; pool = I .pool; new = λ x z. o .less x (I .new x z); outside = outside-then (grown-outside o) (I .outside); count = (let i = I .count in let j = o .count in let l = o .longer in omega arith) })))
-  finishes x y t (stops-fails o) = after-ended
-  finishes x y t (stops-misfits o) = after-ended
-  finishes x y t stops-broken = after-lost
-  finishes x y t (stops-full v) = after-full (short x t v)
-    where
-      short : (x : Stop Graph) → Tidy Fine c₀ x → Over (length g + length (μ .free)) x → Short (length (μ .free)) (Machine.finish c₀ x)
-      short (demand N g′) t v = tt
-      short (becomes h r N g′) t v = omega arith
-      short (parts h ks g′) t v = omega arith
-      short (fails g′) t v = let e : length g′ ≡ length g = ap length t in absurd (omega arith)
-      short (misfits g′) t v = let e : length g′ ≡ length g = ap length t in absurd (omega arith)
-      short broken t v = tt
-      short full t v = tt
-
-  -- A turn on the store stands for a turn on the computation's own graph.
-  pub turn-stands : (n : ℕ) → ((x : Stop Graph) → turnOn (λ x. x) own n m g (record { value = v; askers = ws; stack = N₀ }) ≡ stopped x → Tidy Fine c₀ x)
-      → After w μ (turnWithin n m (record { comp = c₀; stack = N₀ })) (storeTurn n m μ c′)
-  unfolding turnWithin storeTurn
-  turn-stands n t = go (turnOn (λ x. x) own n m g c) (turnOn (λ μ. μ .nodes) take1 n m μ c′) refl refl (turn-alike m w g μ (S .holds) n c c′ (S .helds))
-    where
-      c : Held
-      c = record { value = v; askers = ws; stack = N₀ }
-
-      go : (a : Told Graph) (b : Told Store) → turnOn (λ x. x) own n m g c ≡ a → turnOn (λ μ. μ .nodes) take1 n m μ c′ ≡ b → Tolds w g μ a b → After w μ (turnWithin n m (record { comp = c₀; stack = N₀ })) (storeTurn n m μ c′)
-      go a b p q same-bytes = rw (p, q, turnWithin, storeTurn) after-value
-      go a b p q (same-stop {x = x} {y = y} z) = rw (p, q, turnWithin, storeTurn) (finishes x y (t x p) z)

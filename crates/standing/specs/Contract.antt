@@ -1,6 +1,6 @@
 -- What contracts say of the store: numbers and forwards aside, a computation is its copy.
 -- Here, in order: a computation's copy with its stack; its place in the store; nodes taken back, with what is reached.
--- Not here: the turn on the store (Shared), and that a turn and a taking back keep what is said here (proofs, Standing).
+-- Not here: the turn on the store (Shared), and that a turn and a taking back keep what is said here (proofs).
 -- Assumes nothing.
 use Prim.Native.Nat.{ℕ, _<_}
 use mathlib.Core.Path.{_≡_}

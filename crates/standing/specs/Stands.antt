@@ -1,7 +1,7 @@
 -- How a computation of the definition stands in the store.
 -- Here, in order: which number stands for which handle; a graph and its handles in the store; a computation that stands there; the pool; what a turn
 -- changes; what a turn on the store is after the turn of the definition.
--- Not here: that it is so (proofs, Standing).
+-- Not here: that it is so (proofs).
 -- Assumes nothing.
 use Prim.Native.Nat.{ℕ, _+_, _<_}
 use mathlib.Core.Path.{_≡_}
