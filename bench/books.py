@@ -1,0 +1,192 @@
+#!/usr/bin/env python3
+"""books.py NAME SIZE [REPEAT]: a stream of cases for `shelf`, of one of the documents' own programs at a size; `books.py list` names them.
+The programs: nrev (naive reverse of a list), fib (Fibonacci on Peano numbers), colour (map colouring), perm (permutation sort), back (reverse run backwards: which list reversed is this one?),
+lazy (a list built cell by cell, for the cost of looking for calls), chain (a long chain of forwards)."""
+import struct
+import sys
+
+
+class Book:
+    """A book under way: names for constructors and functions, trees and terms as nested tuples."""
+
+    def __init__(self):
+        self.types, self.cons, self.funcs, self.trees = [], {}, {}, []
+
+    def type(self, *cons):
+        for name, arity in cons:
+            self.cons[name] = (len(self.cons), len(self.types), arity)
+        self.types.append(cons)
+
+    def declare(self, *funcs):
+        for name, arity in funcs:
+            self.funcs[name] = (len(self.funcs), arity)
+
+    def term(self, t):
+        kind = t[0]
+        if kind == "slot":
+            return bytes([9, t[1]])
+        if kind == "fresh":
+            return bytes([10, t[1]])
+        head = bytes([7, self.cons[kind][0]]) if kind in self.cons else bytes([8, self.funcs[kind][0]])
+        return head + b"".join(self.term(a) for a in t[1:])
+
+    def right(self, t, fresh=0):
+        return bytes([6, fresh]) + self.term(t)
+
+    def tree(self, t):
+        if t is None:
+            return bytes([11])
+        if t[0] == "split":
+            _, slot, cons, kids = t
+            ty = self.cons[cons][1]
+            return bytes([4, slot, ty]) + b"".join(self.tree(k) for k in kids)
+        rights = t[1:]
+        return bytes([5, len(rights)]) + b"".join(self.right(r) for r in rights)
+
+    def define(self, name, tree):
+        self.trees.append((name, tree))
+
+    def bytes(self):
+        out = b""
+        for cons in self.types:
+            out += bytes([1, len(cons)]) + b"".join(bytes([2, a]) for _, a in cons)
+        order = {name: tree for name, tree in self.trees}
+        for name in self.funcs:
+            out += bytes([3, self.funcs[name][1]]) + self.tree(order[name])
+        return out
+
+
+def s(i):
+    return ("slot", i)
+
+
+def lists(b):
+    b.type(("nil", 0), ("cons", 2))
+    b.declare(("append", 2), ("reverse", 1))
+    b.define("append", ("split", 0, "nil", [("rule", s(1)), ("rule", ("cons", s(2), ("append", s(3), s(1))))]))
+    b.define("reverse", ("split", 0, "nil", [("rule", ("nil",)), ("rule", ("append", ("reverse", s(2)), ("cons", s(1), ("nil",))))]))
+
+
+def listing(items):
+    t = ("nil",)
+    for x in reversed(items):
+        t = ("cons", x, t)
+    return t
+
+
+def nrev(n):
+    b = Book()
+    lists(b)
+    b.type(("a", 0))
+    return b, ("reverse", listing([("a",)] * n)), 0
+
+
+def peano(n):
+    t = ("zero",)
+    for _ in range(n):
+        t = ("suc", t)
+    return t
+
+
+def numbers(b):
+    b.type(("zero", 0), ("suc", 1))
+    b.declare(("add", 2))
+    b.define("add", ("split", 0, "zero", [("rule", s(1)), ("rule", ("suc", ("add", s(2), s(1))))]))
+
+
+def fib(n):
+    b = Book()
+    numbers(b)
+    b.declare(("fib", 1))
+    b.define("fib", ("split", 0, "zero", [("rule", ("zero",)), ("split", 1, "zero", [("rule", ("suc", ("zero",))), ("rule", ("add", ("fib", ("suc", s(2))), ("fib", s(2))))])]))
+    return b, ("fib", peano(n)), 0
+
+
+def colour(n):
+    b = Book()
+    b.type(("no", 0), ("yes", 0))
+    b.type(("red", 0), ("green", 0), ("blue", 0))
+    b.type(("map", 4))
+    b.declare(("differ", 2), ("also", 2), ("check", 4))
+    row = lambda i: ("split", 1, "red", [("rule", ("no",)) if j == i else ("rule", ("yes",)) for j in range(3)])
+    b.define("differ", ("split", 0, "red", [row(0), row(1), row(2)]))
+    b.define("also", ("split", 0, "no", [None, ("rule", s(1))]))
+    d = lambda i, j: ("differ", s(i), s(j))
+    b.define("check", ("rule", ("also", d(0, 1), ("also", d(0, 2), ("also", d(0, 3), ("also", d(1, 2), ("also", d(1, 3), ("map", s(0), s(1), s(2), s(3)))))))))
+    return b, ("check", ("fresh", 0), ("fresh", 1), ("fresh", 2), ("fresh", 3)), 4
+
+
+def perm(n):
+    b = Book()
+    b.type(("nil", 0), ("cons", 2))
+    b.type(("zero", 0), ("suc", 1))
+    b.type(("no", 0), ("yes", 0))
+    b.declare(("insert", 2), ("perm", 1), ("leq", 2), ("sorted", 1), ("also", 2), ("pick", 2), ("sort", 1))
+    b.define("insert", ("split", 1, "nil", [("rule", ("cons", s(0), ("nil",))), ("rule", ("cons", s(0), ("cons", s(2), s(3))), ("cons", s(2), ("insert", s(0), s(3))))]))
+    b.define("perm", ("split", 0, "nil", [("rule", ("nil",)), ("rule", ("insert", s(1), ("perm", s(2))))]))
+    b.define("leq", ("split", 0, "zero", [("rule", ("yes",)), ("split", 1, "zero", [("rule", ("no",)), ("rule", ("leq", s(2), s(3)))])]))
+    b.define("sorted", ("split", 0, "nil", [("rule", ("yes",)), ("split", 2, "nil", [("rule", ("yes",)), ("rule", ("also", ("leq", s(1), s(3)), ("sorted", ("cons", s(3), s(4)))))])]))
+    b.define("also", ("split", 0, "no", [("rule", ("no",)), ("rule", s(1))]))
+    b.define("pick", ("split", 0, "no", [None, ("rule", s(1))]))
+    b.define("sort", ("rule", ("both", ("perm", s(0)))))
+    b.declare(("both", 1))
+    b.define("both", ("rule", ("pick", ("sorted", s(0)), s(0))))
+    return b, ("sort", listing([peano(i) for i in reversed(range(n))])), 0
+
+
+def back(n):
+    b = Book()
+    lists(b)
+    b.type(("a", 0))
+    b.type(("no", 0), ("yes", 0))
+    b.declare(("same", 2), ("when", 2), ("ask", 2))
+    b.define("same", ("split", 0, "nil", [("split", 1, "nil", [("rule", ("yes",)), ("rule", ("no",))]), ("split", 1, "nil", [("rule", ("no",)), ("rule", ("same", s(3), s(5)))])]))
+    b.define("when", ("split", 0, "no", [None, ("rule", s(1))]))
+    b.define("ask", ("rule", ("when", ("same", ("reverse", s(0)), s(1)), s(0))))
+    return b, ("ask", ("fresh", 0), listing([("a",)] * n)), 1
+
+
+def lazy(n):
+    b = Book()
+    b.type(("nil", 0), ("cons", 2))
+    b.type(("zero", 0), ("suc", 1))
+    b.declare(("build", 1))
+    b.define("build", ("split", 0, "zero", [("rule", ("nil",)), ("rule", ("cons", ("zero",), ("build", s(1))))]))
+    b.declare(("double", 1))
+    b.define("double", ("split", 0, "zero", [("rule", ("zero",)), ("rule", ("suc", ("suc", ("double", s(1)))))]))
+    t, k = ("suc", ("zero",)), n
+    doubles = 0
+    while k > 1:
+        k //= 2
+        doubles += 1
+    for _ in range(doubles):
+        t = ("double", t)
+    return b, ("build", t), 0
+
+
+def chain(n):
+    b = Book()
+    numbers(b)
+    b.declare(("loop", 1), ("down", 2))
+    b.define("loop", ("split", 0, "zero", [("rule", ("zero",)), ("rule", ("loop", s(1)))]))
+    b.define("down", ("split", 0, "zero", [("rule", s(1)), ("rule", ("down", s(2), s(1)))]))
+    return b, ("down", ("add", peano(60), peano(min(n, 60))), ("zero",)), 0
+
+
+CASES = {"nrev": nrev, "fib": fib, "colour": colour, "perm": perm, "back": back, "lazy": lazy, "chain": chain}
+
+
+def main():
+    if len(sys.argv) < 2 or sys.argv[1] == "list":
+        print(" ".join(CASES))
+        return
+    name, size = sys.argv[1], int(sys.argv[2])
+    repeat = int(sys.argv[3]) if len(sys.argv) > 3 else 1
+    b, t, fresh = CASES[name](size)
+    book, question = b.bytes(), b.right(t, fresh)
+    budget = 2000 if name == "back" else 1000000
+    case = struct.pack("<7I", 16384, 1024, budget, 65536, 262144, len(book), len(question)) + book + question
+    sys.stdout.buffer.write(case * repeat)
+
+
+main()
