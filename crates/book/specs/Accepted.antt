@@ -7,6 +7,8 @@ use mathlib.Core.Path.{_≡_}
 use mathlib.Core.Bool.{true}
 use mathlib.Core.List.{List, [], _∷_, map}
 use lib.ListN.{length, getD, replicate}
+-- (the table, so that its rows are checked before anything that stands on the definitions)
+use Rattle.book.specs.Table.{every-row}
 use Rattle.book.specs.Syntax.{Symbol, con, fun, Term, Terms, app, slot, fresh, done, arg, Right, Tree, Trees, split, rule, norule, stop, child, Func, arity, Book, conArities, consOf}
 use Rattle.book.specs.Reading.{Slots, allFit, under}
 

@@ -15,11 +15,11 @@ use Rattle.book.specs.Reading.{after, make, pick, slotCase, readHead, fi
 use Rattle.book.specs.Answers.{Told, told, zeros, toldOf, onBook, checkBook, onQuestion, onBoth, checkQuestion}
 
 -- a verdict with what it tells
-data Seen : Type 0 where
+pub data Seen : Type 0 where
   seen : Verdict → Told → Seen
 
 -- a book and a question, and what is seen of the question check
-record Row : Type 0 where
+pub record Row : Type 0 where
   book : List ℕ
   question : List ℕ
   gives : Seen
@@ -46,7 +46,7 @@ abbrev bookB : List ℕ
 bookB = 1 ∷ 2 ∷ 2 ∷ 0 ∷ 2 ∷ 0 ∷ 1 ∷ 3 ∷ 2 ∷ 0 ∷ 2 ∷ 0 ∷ 2 ∷ 0 ∷ 3 ∷ 1 ∷ 4 ∷ 0 ∷ 1 ∷ 5 ∷ 1 ∷ 6 ∷ 0 ∷ 7 ∷ 0 ∷ 5 ∷ 1 ∷ 6 ∷ 0 ∷ 7 ∷ 1 ∷ 5 ∷ 1 ∷ 6 ∷ 0 ∷ 7 ∷ 1 ∷ 3 ∷ 2 ∷ 4 ∷ 0 ∷ 0 ∷ 11 ∷ 5 ∷ 1 ∷ 6 ∷ 0 ∷ 9 ∷ 1 ∷ []
 
 -- the rows
-table : List Row
+pub table : List Row
 table =
     -- document 01, "Worked on paper", and the readings of its rules on places
     fine bookB (6 ∷ 1 ∷ 8 ∷ 1 ∷ 8 ∷ 0 ∷ 10 ∷ 0 ∷ 10 ∷ 0 ∷ []) ∷
@@ -99,13 +99,13 @@ table =
     []
 
 -- what the definition gives for a row, and what the row says
-given : Row → Seen
+pub given : Row → Seen
 given r = let v = checkQuestion (r .book) (r .question) in seen v (toldOf v)
 
-said : Row → Seen
+pub said : Row → Seen
 said r = r .gives
 
 -- every row is what the definition gives
-every-row : map given table ≡ map said table
+pub every-row : map given table ≡ map said table
 unfolding given said table checkQuestion onBoth onQuestion toldOf after make pick slotCase readHead firstOf othersOf joined readTerms theOne readRight readRights allFit splits under readTrees readTree readCons readTypes readFuncs readBook last readAlone readQuestion bodyOf bodyByte recAt scan bookFits anyFits funcsFrom funcArities arity
 every-row = refl
