@@ -1,6 +1,8 @@
 // The TYPEs at a book's start.
-// Here, in order: a type by its number; CONS records; all TYPEs, which gathers the constructors' arities.
+// Here, in order: a type by its number; where a constructor belongs; CONS records; all TYPEs, which gathers the constructors' arities.
 // Not here: the functions (shelf).
+use crate::ConNo;
+use crate::Home;
 use crate::Rec;
 use crate::Sort;
 use crate::Step;
@@ -13,7 +15,8 @@ use crate::record::wide;
 ghost use mathlib.Core.Path.{_≡_};
 ghost use Prim.Native.Nat.{_<_, _≤_};
 ghost use lib.ListN.{length};
-ghost use Rattle.book.specs.Steps.{typesOf, Front, TypeIs, consIs, typeFault, typesIs};
+ghost use Rattle.book.specs.Syntax.{conArities};
+ghost use Rattle.book.specs.Steps.{typesOf, Front, TypeIs, HomeIs, consIs, typeFault, typesIs};
 
 // A type, found by walking over those before it.
 pub fn type_at(s: &[u8], t: TypeNo) -> TypeInfo
@@ -31,6 +34,24 @@ pub fn type_at(s: &[u8], t: TypeNo) -> TypeInfo
     }
     let count = wide(s[at + 1]);
     TypeInfo { at, first, count }
+}
+
+// Where a constructor belongs, found by walking over the types before it.
+pub fn con_home(s: &[u8], c: ConNo) -> Home
+    requires { ⌜ Front (now s) (length (typesOf (now s))) × (c .0 < length (conArities (typesOf (now s)))) ⌝ }
+    ensures { λ r. ⌜ HomeIs (now (s .entry)) (c .0) r ⌝ }
+{
+    let mut at = 0;
+    let mut ty = 0;
+    let mut left = wide(c.0);
+    let mut n = wide(s[1]);
+    while n <= left {
+        left -= n;
+        at = at + 2 * n + 2;
+        ty += 1;
+        n = wide(s[at + 1]);
+    }
+    Home { ty, arm: left }
 }
 
 // n CONS records, `before` standing before them; their arities are put into the table.

@@ -38,7 +38,7 @@ fn on_book(b: Read) -> Verdict
 {
     match b {
         Read::Fault(w, p) => Verdict::BookFault(w, p),
-        Read::Book(_, _) => Verdict::Accepted,
+        Read::Book(_, _, _) => Verdict::Accepted,
     }
 }
 
@@ -68,7 +68,7 @@ pub fn check_question(book: &[u8], question: &[u8]) -> Verdict
     let mut cons = [0u8; 256];
     let mut funcs = [0u8; 256];
     let b = read_book(book, &mut cons, &mut funcs);
-    let Read::Book(nc, nf) = b else {
+    let Read::Book(_, nc, nf) = b else {
         return on_book(b);
     };
     on_question(read_question(question, &cons[..nc], &funcs[..nf]))

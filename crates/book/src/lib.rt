@@ -8,7 +8,7 @@ mod shelf;
 mod term;
 mod tree;
 
-pub use front::read_types;
+pub use front::con_home;
 pub use front::type_at;
 pub use judge::check_book;
 pub use judge::check_question;
@@ -41,6 +41,12 @@ pub struct TypeInfo {
     pub at: usize,
     pub first: usize,
     pub count: usize,
+}
+
+// Where a constructor belongs: its type, and its arm there, from 0.
+pub struct Home {
+    pub ty: usize,
+    pub arm: usize,
 }
 
 // Whether a slot can be split by a type: the place of the type's first CONS record, and how many it has.
@@ -85,9 +91,9 @@ pub enum Types {
     Fault(Sort, usize),
 }
 
-// A book that was read: the numbers of its constructors and functions.
+// A book that was read: the numbers of its types, constructors and functions.
 pub enum Read {
-    Book(usize, usize),
+    Book(usize, usize, usize),
     Fault(Sort, usize),
 }
 

@@ -80,12 +80,12 @@ fn no_types(t: Types) -> Read
 }
 
 // What reading the functions makes of the book.
-fn on_funcs(s: Step, cons: usize, funcs: usize) -> Read
-    ensures { λ x. ⌜ x ≡ readOf s cons funcs ⌝ }
+fn on_funcs(s: Step, types: usize, cons: usize, funcs: usize) -> Read
+    ensures { λ x. ⌜ x ≡ readOf s types cons funcs ⌝ }
 {
     match s {
         Step::Fault(w, p) => Read::Fault(w, p),
-        Step::Next(_) => Read::Book(cons, funcs),
+        Step::Next(_) => Read::Book(types, cons, funcs),
     }
 }
 
@@ -105,5 +105,10 @@ pub fn read_book(s: &[u8], cons: &mut [u8], funcs: &mut [u8]) -> Read
     let Types::Are(types, nc, at) = t else {
         return no_types(t);
     };
-    on_funcs(read_funcs(s, types, &cons[..nc], &funcs[..nf], at), nc, nf)
+    on_funcs(
+        read_funcs(s, types, &cons[..nc], &funcs[..nf], at),
+        types,
+        nc,
+        nf,
+    )
 }
