@@ -16,7 +16,8 @@ ghost use mathlib.Core.Path.{_≡_};
 ghost use Prim.Native.Nat.{_<_, _≤_};
 ghost use lib.ListN.{length};
 ghost use Rattle.book.specs.Syntax.{conArities};
-ghost use Rattle.book.specs.Steps.{typesOf, Front, TypeIs, HomeIs, consIs, typeFault, typesIs};
+ghost use Rattle.book.specs.Steps.{typesOf, Front, TypeIs, consIs, typeFault, typesIs};
+ghost use Rattle.book.specs.Facts.{HomeIs};
 
 // A type, found by walking over those before it.
 pub fn type_at(s: &[u8], t: TypeNo) -> TypeInfo

@@ -12,6 +12,7 @@ pub use front::con_home;
 pub use front::type_at;
 pub use judge::check_book;
 pub use judge::check_question;
+pub use record::fun_tree;
 pub use record::rec_at;
 pub use shelf::read_book;
 pub use term::con_arity;

@@ -1,6 +1,7 @@
 // The record at a place, and the first pass over all records of a book or a question.
-// Here, in order: a byte as a number; the record at a place; a book's first pass, which gathers the functions' arities; a question's.
+// Here, in order: a byte as a number; the record at a place; a book's first pass, which gathers the functions' arities; a question's; a function's tree.
 // Not here: which record is expected where (front, term, tree).
+use crate::FunNo;
 use crate::Pass;
 use crate::Rec;
 use crate::Sort;
@@ -9,13 +10,16 @@ ghost use mathlib.Core.Path.{_≡_};
 ghost use lib.ListN.{length};
 ghost use Rattle.book.specs.Record.{recAt, scan, anyFits};
 ghost use Rattle.book.specs.Steps.{badAt, step, passFault, passIs};
+ghost use Rattle.book.specs.Facts.{TreeStands};
 
+// A byte as a number.
 pub fn wide(x: u8) -> usize
     ensures { λ r. ⌜ r ≡ x ⌝ }
 {
     x as usize
 }
 
+// The record at a place, or what is wrong there.
 pub fn rec_at(s: &[u8], at: usize) -> Rec
     ensures { λ r. ⌜ r ≡ recAt (now (s .entry)) at ⌝ }
 {
@@ -102,4 +106,26 @@ pub fn whole(s: &[u8]) -> Step
         at = e;
     }
     Step::Next(at)
+}
+
+// The place of a function's tree: after its FUNC record.
+pub fn fun_tree(s: &[u8], f: FunNo) -> usize
+    ensures { λ r. ⌜ TreeStands (now (s .entry)) (f .0) r ⌝ }
+{
+    let mut at = 0;
+    let mut left = wide(f.0);
+    while at < s.len() {
+        let r = rec_at(s, at);
+        let Rec::Of(kind, _, _, e) = r else {
+            return at;
+        };
+        if kind == 3 {
+            if left == 0 {
+                return e;
+            }
+            left -= 1;
+        }
+        at = e;
+    }
+    at
 }

@@ -40,6 +40,7 @@ pub fn fun_arity(funcs: &[u8], f: FunNo) -> Found
     Found::Nothing
 }
 
+// The record of a symbol whose arity was looked up.
 fn named(f: Found, at: usize, e: usize) -> Args
     ensures { λ x. ⌜ x ≡ namedArgs f at e ⌝ }
 {
@@ -49,6 +50,7 @@ fn named(f: Found, at: usize, e: usize) -> Args
     }
 }
 
+// The record of a number that is to be below n.
 fn below(a: u8, n: usize, at: usize, e: usize) -> Args
     ensures { λ x. ⌜ x ≡ within a n at e ⌝ }
 {
