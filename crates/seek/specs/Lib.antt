@@ -1,0 +1,3 @@
+pub mod Walkable
+pub mod Walk
+pub mod Lead
