@@ -33,7 +33,7 @@ get-list-requires c κs =
 put-mark-requires : tie.Need-put-mark-requires Inv-loop μ-loop
 put-mark-requires c κs =
     let i = c .before .before .before .before .loop .inv in
-    ((omega arith, omega arith), last-in _ _ _ _ (c .before .before .before .loop-test .taken) (i .0) (c .before .get-list .ensures))
+    ((omega arith, omega arith), last-in _ _ _ _ (omega arith) (i .0) (c .before .get-list .ensures))
 
 loop-less : tie.Need-loop-less Inv-loop μ-loop
 loop-less c = omega arith
@@ -42,7 +42,7 @@ loop-again : tie.Need-loop-again Inv-loop μ-loop
 loop-again c =
     let i = c .before .before .before .before .before .before .before .loop .inv in
     let w = c .before .before .put-mark .ensures in
-    (unlisted _ _ _ _ (c .before .before .before .before .before .before .loop-test .taken) (i .0) (c .before .before .before .before .get-list .ensures) _ w, mark-still _ _ _ _ _ w ∙ i .1, w .long ∙ i .2, c .before .before .put-mark .kept .0 ∙ i .3)
+    (unlisted _ _ _ _ (omega arith) (i .0) (c .before .before .before .before .get-list .ensures) _ w, mark-still _ _ _ _ _ w ∙ i .1, w .long ∙ i .2, c .before .before .put-mark .kept .0 ∙ i .3)
 
 same-length : tie.Need-same-length Inv-loop μ-loop
 same-length c = c .before .loop .inv .3
@@ -50,7 +50,7 @@ same-length c = c .before .loop .inv .3
 returns : tie.Need-returns Inv-loop μ-loop
 returns c =
     let i = c .before .loop .inv in
-    record { still = still-of _ _ _ (i .1) (i .2); clear = all-clear _ _ _ (c .loop-test .left) (i .0) }
+    record { still = still-of _ _ _ (i .1) (i .2); clear = all-clear _ _ _ (omega arith) (i .0) }
 
 pub unmark-spec : {M : Type 1} → statement M
 unmark-spec =
