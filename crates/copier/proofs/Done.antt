@@ -2,29 +2,32 @@
 -- Assumes nothing.
 use Prim.Native.Nat.{ℕ, _+_, _-_, _*_, _≤_, _<_}
 use native.Mathlib.Omega.{arith}
-use mathlib.Core.Path.{_≡_, refl, sym, ap, _∙_}
+use mathlib.Core.Path.{_≡_, refl, ap, _∙_}
 use mathlib.Core.Bool.{true, false}
 use mathlib.Core.List.{List, map}
-use lib.ListN.{length, take}
+use lib.ListN.{length}
 use lib.Seq.{length-take-le}
 use Rattle.mem.specs.Words.{words}
 use Rattle.heap.specs.Graph.{Graph, node, reach}
 use Rattle.heap.specs.Build.{upFrom}
 use Rattle.heap.proofs.Laws.Pour.{laid-other}
-use Rattle.store.specs.Regions.{graphOf, listOf, placesOf}
+use Rattle.store.specs.Regions.{graphOf, placesOf}
 use Rattle.copier.specs.Listed.{seenIn, rootsIn, Lists, cleared}
 use Rattle.copier.specs.Poured.{placed, copied, laidFrom, Emitted, Placed, Walkable, given, PouredTo}
 use Rattle.copier.specs.declared.Roots.{Roots}
 use Rattle.copier.proofs.Listing.{kept-then}
 use Rattle.copier.proofs.Pours.{upFrom-from, pours-none, pours-some, pours-clean}
 
+pub some-roots : (hs : Roots) → (1 ≤ hs .n) × (hs .n ≤ 9) → length (hs .at) ≡ 9 → 1 ≤ length (rootsIn hs)
+some-roots hs n nine =
+    let a = n .0 in
+    let b = n .1 in
+    let e = length-take-le (hs .n) (hs .at) (omega arith) in
+    omega arith
+
 module _ (L made count : ℕ) {s s₁ : List ℕ} (hs : Roots) (room : 16 * L ≤ length (words s)) (below : made ≤ L) (n : (1 ≤ hs .n) × (hs .n ≤ 9)) (nine : length (hs .at) ≡ 9) (W : Walkable (graphOf L s) made (rootsIn hs)) (A : Lists L s s₁ (reach (graphOf L s) (rootsIn hs)) count) where
   some-hs : 1 ≤ length (rootsIn hs)
-  some-hs =
-      let a = n .0 in
-      let b = n .1 in
-      let e = length-take-le (hs .n) (hs .at) (omega arith) in
-      omega arith
+  some-hs = some-roots hs n nine
 
   pub done-none : {s₂ : List ℕ} → L - made < count → Placed L s₁ s₂ (cleared (seenIn L count s₁) (placesOf L s₁)) → PouredTo L made hs s s₂ (record { fits = false; made = made; roots = hs })
   unfolding given

@@ -1,17 +1,15 @@
 -- Laws of the copy written: nodes below `made` stay, so handles end where they did; the new numbers; a node of the copy after the other.
 -- Assumes nothing.
-use Prim.Native.Nat.{ℕ, zero, suc, _+_, _-_, _*_, _≤_, _<_}
+use Prim.Native.Nat.{ℕ, suc, _+_, _-_, _*_, _≤_, _<_}
 use native.Mathlib.Omega.{arith}
 use native.Mathlib.Numerals.{add-one}
 use mathlib.Core.Path.{_≡_, refl, sym, ap, _∙_, subst}
-use mathlib.Core.Logic.{_≢_}
 use mathlib.Core.List.{List, [], _∷_, map, List·Memᴰ, List·Memᴰ·head, List·Memᴰ·tail}
-use mathlib.Core.Option.{some}
-use lib.ListN.{length, getD, take, drop, set, length-map, drop-of-length-le}
+use lib.ListN.{length, getD, drop, set, length-map, drop-of-length-le}
 use lib.Seq.{getD-take, getD-set-other, drop-cons}
 use Rattle.mem.specs.Words.{words}
 use Rattle.book.specs.Syntax.{con, fun}
-use Rattle.heap.specs.Graph.{Graph, Node, cell, var, fwd, node, follow, args, indexOf, named, renamed}
+use Rattle.heap.specs.Graph.{Graph, Node, cell, var, fwd, node, follow, args, named, renamed}
 use Rattle.heap.specs.Build.{upFrom}
 use Rattle.heap.specs.Place.{Leads}
 use Rattle.heap.specs.Store.{moved, laid}
@@ -88,9 +86,6 @@ module _ (L made count : ℕ) (s₀ s : List ℕ) (D : Listed L count s₀) (roo
       (rw (a .0) b, omega arith, omega arith)
 
   module _ (C : Closed g made l) (i : ℕ) (p : i < count) where
-    x : ℕ
-    x = getD l i 0
-
     inl′ : i < length l
     inl′ = let c = length-seen L s₀ room count (D .fits) in omega arith
 

@@ -5,3 +5,4 @@ pub mod Emits
 pub mod Steps
 pub mod Pours
 pub mod Done
+pub mod Beside

@@ -1,16 +1,16 @@
 -- Laws of the list in the memory: what stays, a node seen, handles seen one by one, the sweep, the place words set back.
 -- Assumes nothing.
-use Prim.Native.Nat.{ℕ, zero, suc, _+_, _-_, _*_, _≤_, _<_}
+use Prim.Native.Nat.{ℕ, suc, _+_, _-_, _*_, _≤_, _<_}
 use native.Mathlib.Omega.{arith}
 use native.Mathlib.Decide.{ℕ-discrete}
 use native.Mathlib.Numerals.{add-one}
 use mathlib.Core.Path.{_≡_, refl, sym, ap, _∙_, subst}
-use mathlib.Core.Logic.{_⊎_, inl, inr, _≢_}
-use mathlib.Core.List.{List, [], _∷_, _++_, List·Memᴰ, List·Memᴰ·head, List·Memᴰ·tail, List·Memᴰ·not-nil, List·Memᴰ·cases-cons, List·Memᴰ·append-cases, List·Memᴰ·eq-of-singleton}
-use lib.ListN.{length, getD, take, drop, set, replicate, length-set, length-append, length-replicate, getD-replicate, drop-of-length-le}
+use mathlib.Core.Logic.{_⊎_, inl, inr}
+use mathlib.Core.List.{List, [], _∷_, _++_, List·Memᴰ, List·Memᴰ·not-nil, List·Memᴰ·cases-cons, List·Memᴰ·append-cases, List·Memᴰ·eq-of-singleton}
+use lib.ListN.{length, getD, drop, set, replicate, length-set, length-append, length-replicate, getD-replicate, drop-of-length-le}
 use lib.Seq.{length-take-le, take-suc-set, drop-cons, getD-set-same, getD-set-other, ext-getD}
 use Rattle.mem.specs.Words.{words}
-use Rattle.heap.specs.Graph.{Graph, node, follow, args, indexOf, sight, sweep, reach}
+use Rattle.heap.specs.Graph.{Graph, node, follow, args, sight, sweep, reach}
 use Rattle.heap.specs.Place.{Distinct}
 use Rattle.heap.proofs.Laws.Few.{few}
 use Rattle.heap.proofs.Laws.Shape.{sight-distinct, sweep-done}

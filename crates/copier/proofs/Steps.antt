@@ -1,13 +1,13 @@
 -- Laws in the very shape of what the code's steps need: arrays filled a word at a time, a node's arity, a place word, a node put, the place words set back.
 -- Assumes nothing.
-use Prim.Native.Nat.{ℕ, zero, suc, _+_, _-_, _*_, _≤_, _<_}
+use Prim.Native.Nat.{ℕ, suc, _+_, _-_, _*_, _≤_, _<_}
 use native.Mathlib.Omega.{arith}
 use native.Mathlib.Decide.{decLt}
 use native.Mathlib.Numerals.{add-one}
 use mathlib.Core.Path.{_≡_, refl, sym, ap, _∙_, subst}
 use mathlib.Core.List.{List, [], _∷_, _++_, map, List·Memᴰ, List·Memᴰ·head}
 use lib.ListN.{length, getD, take, drop, set, drop-of-length-le}
-use lib.Seq.{take-suc, take-suc-set, take-take, take-length, getD-take, drop-cons, length-take-le}
+use lib.Seq.{take-suc, take-suc-set, take-take, getD-take, drop-cons, length-take-le}
 use Rattle.mem.specs.Words.{words}
 use Rattle.heap.specs.Graph.{Graph, Node, cell, var, node, follow, args, sight, sweep}
 use Rattle.heap.proofs.Laws.Reach.{mem-at}
@@ -15,7 +15,6 @@ use Rattle.store.specs.Regions.{graphOf, listOf, placesOf, Memory, Did, setNode
 use Rattle.store.specs.Rows.{seen, symbolOf}
 use Rattle.store.specs.declared.Seen.{Seen}
 use Rattle.store.specs.declared.Seen.the-variants.{Var, Con, Call, Fwd}
-use Rattle.store.specs.declared.Head.{Head}
 use Rattle.store.specs.declared.Head.the-variants.{Makes, Calls}
 use Rattle.store.specs.declared.NodeNo.{NodeNo}
 use Rattle.book.specs.declared.ConNo.{ConNo}

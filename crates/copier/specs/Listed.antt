@@ -2,13 +2,13 @@
 -- Here, in order: handles in an array; the nodes seen; what stays; handles seen; the nodes under them; the place words set back.
 -- Not here: what is written of the nodes seen (Poured).
 -- Assumes nothing.
-use Prim.Native.Nat.{ℕ, zero, suc, _≤_, _<_}
+use Prim.Native.Nat.{ℕ, suc, _≤_, _<_}
 use mathlib.Core.Path.{_≡_}
 use mathlib.Core.List.{List, [], _∷_, List·Memᴰ}
 use mathlib.Core.Option.{none, some}
 use lib.ListN.{length, getD, take, set, replicate}
 use Rattle.mem.specs.Words.{words}
-use Rattle.heap.specs.Graph.{Graph, node, follow, args, indexOf, sight, sweep}
+use Rattle.heap.specs.Graph.{Graph, node, follow, args, indexOf, sight}
 use Rattle.heap.specs.Place.{Distinct}
 use Rattle.store.specs.Regions.{graphOf, marksOf, linksOf, listOf, placesOf, framesOf, restOf}
 use Rattle.copier.specs.declared.Roots.{Roots}

@@ -2,10 +2,10 @@
 -- Here, in order: handles by their new numbers; a node with new numbers; what the nodes seen lead to; what code may rely on; the copy poured.
 -- Not here: the list of nodes seen (Listed), the copy itself (heap, Graph), pour (standing, Shared).
 -- Assumes nothing.
-use Prim.Native.Nat.{ℕ, zero, suc, _+_, _-_, _≤_, _<_}
+use Prim.Native.Nat.{ℕ, _+_, _-_, _≤_, _<_}
 use mathlib.Core.Path.{_≡_}
 use mathlib.Core.Bool.{Bool, true, false}
-use mathlib.Core.List.{List, [], _∷_, map, List·Memᴰ}
+use mathlib.Core.List.{List, [], map, List·Memᴰ}
 use mathlib.Core.Option.{Option, none, some}
 use lib.ListN.{length, getD, drop}
 use Rattle.book.specs.Syntax.{con, fun}
@@ -19,7 +19,7 @@ use Rattle.standing.specs.Shared.{pour}
 use Rattle.store.specs.declared.Seen.{Seen}
 use Rattle.store.specs.declared.Seen.the-variants.{Var, Con, Call, Fwd}
 use Rattle.store.specs.Regions.{graphOf, listOf, placesOf, storeOf}
-use Rattle.copier.specs.Listed.{rootsIn, seenIn, Clean, Kept}
+use Rattle.copier.specs.Listed.{rootsIn, Clean, Kept}
 use Rattle.copier.specs.declared.Roots.{Roots}
 use Rattle.copier.specs.declared.Poured.{Poured}
 

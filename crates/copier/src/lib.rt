@@ -1,7 +1,5 @@
 // The copy of a computation, poured at the next free numbers. The nodes seen are the words of the store's list, in order of first
 // sight; each has its place + 1 in its place word, so that a shared node is copied once.
-use book::ConNo;
-use book::FunNo;
 use store::Head;
 use store::NodeNo;
 use store::Seen;
