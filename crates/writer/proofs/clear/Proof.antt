@@ -1,0 +1,70 @@
+use Rattle.writer.proofs.Draining.{Clears, clear-start, clear-low, clear-again, clear-done, kept-place}
+use Rattle.writer.proofs.Turning.{kept-none, kept-then, room-kept}
+use Rattle.writer.specs.Written.{seenOf}
+use Rattle.writer.specs.Walk.{Kept}
+use Rattle.store.specs.Regions.{listOf}
+use lib.ListN.{length, drop}
+use mathlib.Core.Path.{_≡_, refl, ap, sym, _∙_}
+use Prim.Native.Nat.{ℕ, _+_, _-_, _≤_}
+use native.Mathlib.Omega.{arith}
+use Rattle.writer.proofs.clear.Statement.{statement}
+use Rattle.writer.proofs.clear.Tie as tie
+use Rattle.writer.proofs.clear.Reads as reads
+use Rattle.writer.proofs.clear.Lts as lts
+use Rattle.store.proofs.get_list.Reads as get-list-reads
+use Rattle.store.proofs.put_place.Reads as put-place-reads
+
+abbrev Inv-loop : tie.InvT-loop
+Inv-loop s₀ limit seen i₀ s i = Kept limit s₀ s × (listOf limit s ≡ listOf limit s₀) × Clears limit s (drop i (seenOf limit s₀ seen)) × (i ≤ seen) × (length s ≡ length s₀)
+
+abbrev μ-loop : tie.MeasureT-loop
+μ-loop s₀ limit seen i₀ s i = seen - i
+
+-- src/lib.rt:307:5
+loop-holds : tie.Need-loop-holds Inv-loop μ-loop
+loop-holds c = (kept-none _ _, refl, clear-start _ _ _ (c .before .pre .0 .1) (c .before .pre .1), omega arith, refl)
+
+-- src/lib.rt:308:13
+get-list-requires : tie.Need-get-list-requires Inv-loop μ-loop
+get-list-requires c κs = (room-kept (c .before .before .loop .inv .0) (c .before .before .before .before .pre .0), omega (arith, c .before .before .before .before .pre .1 .short))
+
+-- src/lib.rt:309:9
+put-place-requires : tie.Need-put-place-requires Inv-loop μ-loop
+put-place-requires c κs = (room-kept (c .before .before .before .before .loop .inv .0) (c .before .before .before .before .before .before .pre .0), clear-low _ _ _ (c .before .before .before .before .before .before .pre .0 .1) (c .before .before .before .before .before .before .pre .1) _ _ _ (c .before .before .before .loop-test .taken) (c .before .before .before .before .loop .inv .1) (c .before .get-list .ensures))
+
+-- src/lib.rt:307:9
+add-i : tie.Need-add-i Inv-loop μ-loop
+add-i c = omega arith
+
+-- src/lib.rt:307:5
+loop-less : tie.Need-loop-less Inv-loop μ-loop
+loop-less c = omega arith
+
+-- src/lib.rt:307:5
+loop-again : tie.Need-loop-again Inv-loop μ-loop
+loop-again c = let i = c .before .before .before .before .before .before .before .loop .inv in
+    let k = kept-place _ _ _ _ _ (c .before .before .put-place .ensures) in
+    (kept-then (i .0) (k .0), k .1 ∙ i .1, clear-again _ _ _ (c .before .before .before .before .before .before .before .before .before .pre .0 .1) (c .before .before .before .before .before .before .before .before .before .pre .1) _ _ _ (c .before .before .before .before .before .before .loop-test .taken) (i .1) (c .before .before .before .before .get-list .ensures) _ (i .0 .long) (c .before .before .put-place .ensures) (i .2), omega arith, c .before .before .put-place .kept .0 ∙ i .4)
+
+-- src/lib.rt:302:1
+same-length : tie.Need-same-length Inv-loop μ-loop
+same-length c = c .before .loop .inv .4
+
+-- src/lib.rt:302:1
+returns : tie.Need-returns Inv-loop μ-loop
+returns c = let i = c .before .loop .inv in record { clean = clear-done _ _ _ (c .before .before .before .pre .0 .1) (c .before .before .before .pre .1) _ _ (c .loop-test .left) (i .0 .long) (i .2); kept = i .0 }
+
+pub clear-spec : {M : Type 1} → statement M
+clear-spec =
+    tie.close
+    (tie.spec
+    Inv-loop
+    μ-loop
+    loop-holds
+    get-list-requires
+    put-place-requires
+    add-i
+    loop-less
+    loop-again
+    same-length
+    returns)
