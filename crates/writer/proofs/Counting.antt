@@ -3,19 +3,19 @@
 -- Assumes nothing.
 use Prim.Native.Nat.{ℕ, zero, suc, _+_, _-_, _*_, _≤_, _<_}
 use native.Mathlib.Omega.{arith}
-use mathlib.Core.Path.{_≡_, refl, sym, ap, _∙_, subst}
+use mathlib.Core.Path.{_≡_, refl, sym, _∙_, subst}
 use mathlib.Core.List.{List, [], _∷_, _++_, List·Memᴰ}
-use lib.ListN.{length, getD, take, drop, length-append, length-take, drop-of-length-le}
+use lib.ListN.{length, getD, take, drop, length-take, drop-of-length-le}
 use lib.Seq.{drop-cons, getD-take, length-take-le}
-use native.Mathlib.Numerals.{add-one, sub-one}
+use native.Mathlib.Numerals.{add-one}
 use borrow.Author.Tests.{le-leb, lt-leb}
 use Rattle.mem.specs.Words.{words}
 use Rattle.heap.specs.Graph.{Graph, write, writeEach}
 use Rattle.heap.proofs.Laws.Reach.{mem-at}
 use Rattle.store.specs.Regions.{Room, graphOf, framesOf, Frame, frameAt, stack}
 use Rattle.store.proofs.Laws.{length-graph}
-use Rattle.writer.specs.Walk.{Reads, Read, Stood, Kept, Framed, Turned, visited, stepped, pick, weigh}
-use Rattle.writer.specs.Owes.{after, tells, owes, dues, steps, Counted, fits}
+use Rattle.writer.specs.Walk.{Reads, Read, Stood, Kept, Turned, visited, stepped, pick, weigh}
+use Rattle.writer.specs.Owes.{after, tells, owes, dues, steps, fits}
 use Rattle.writer.specs.Written.{Within}
 use Rattle.writer.specs.declared.Met.{Met}
 use Rattle.writer.specs.declared.Met.the-variants.{Made, Free, Nothing}

@@ -4,27 +4,26 @@
 use Prim.Native.Nat.{ℕ, zero, suc, _+_, _-_, _*_, _≤_, _<_}
 use native.Mathlib.Omega.{arith}
 use native.Mathlib.Numerals.{add-one}
-use native.Mathlib.Nat.{add-zero, zero-add}
+use native.Mathlib.Nat.{add-zero}
 use native.Mathlib.Decide.{ℕ-discrete}
-use mathlib.Core.Path.{_≡_, refl, sym, ap, _∙_, subst}
+use mathlib.Core.Path.{_≡_, refl, sym, ap, _∙_}
 use mathlib.Core.Logic.{_⊎_, inl, inr}
 use mathlib.Core.Option.{Option, none, some}
-use mathlib.Core.List.{List, [], _∷_, _++_, append-nil, append-assoc, List·Memᴰ, List·Memᴰ·head, List·Memᴰ·not-nil, List·Memᴰ·cases-cons}
-use lib.ListN.{length, getD, take, drop, set, replicate, length-drop, length-append, length-replicate, getD-replicate, drop-of-length-le}
-use lib.Seq.{sets, sets-eq, take-all, drop-drop, drop-cons, getD-take, getD-set-same, getD-set-other, ext-getD}
+use mathlib.Core.List.{List, List·Memᴰ, List·Memᴰ·not-nil, List·Memᴰ·cases-cons}
+use lib.ListN.{length, getD, drop, set, replicate, length-replicate, getD-replicate, drop-of-length-le}
+use lib.Seq.{drop-cons, getD-take, getD-set-same, getD-set-other, ext-getD}
 use Rattle.mem.specs.Words.{words}
-use Rattle.heap.specs.Graph.{Graph, indexOf, write}
+use Rattle.heap.specs.Graph.{Graph, indexOf}
 use Rattle.heap.proofs.Laws.Reach.{mem-at, indexOf-some}
 use Rattle.store.specs.Regions.{graphOf, listOf, placesOf, framesOf, Memory, Did, setPlace, Frame, stack}
-use Rattle.store.proofs.Writes.{length-list, length-places}
+use Rattle.store.proofs.Writes.{length-places}
 use Rattle.writer.specs.Walk.{Stood, Kept, Framed, weigh}
-use Rattle.writer.specs.Owes.{after, tells, owes, dues, steps}
-use Rattle.writer.specs.Written.{over, End, ends, seenOf, placeOf, Table, Clean, Told, Writes, Cleared}
+use Rattle.writer.specs.Owes.{after, tells, owes, steps}
+use Rattle.writer.specs.Written.{over, End, ends, seenOf, placeOf, Table, Clean, Told}
 use Rattle.writer.specs.declared.Met.{Met}
 use Rattle.writer.specs.declared.Turn.{Turn}
 use Rattle.writer.proofs.Owing.{after-length, tells-weigh}
 use Rattle.writer.proofs.Telling.{ends-after, length-over, length-seen, seen-same}
-use Rattle.writer.proofs.Turning.{kept-then}
 use Rattle.writer.proofs.Counting.{Onward}
 
 -- what is owed begins with what is met: there is room for it
@@ -131,10 +130,13 @@ module _ (L seen : ℕ) (s0 : List ℕ) (room : 16 * L ≤ length (words s0)) (T
       ext-getD 0 (placesOf L s) (replicate L 0) (rw length-replicate a) (λ k q. (let q′ : k < L = omega arith in C k q′ (λ m. List·Memᴰ·not-nil (rw (drop-of-length-le l {i = i} (omega (arith, length-seen L seen s0 room (T .short)))) at m)) ∙ sym (getD-replicate L k 0 0 q′)))
 
 pub kept-place : (L n v : ℕ) (s s′ : List ℕ) → Did L s s′ (setPlace n v) → Kept L s s′ × (listOf L s′ ≡ listOf L s)
-kept-place L n v s s′ d = (record {
-  graph = ap (λ (m : Memory). m .graph) (d .is);
-  marks = ap (λ (m : Memory). m .marks) (d .is);
-  links = ap (λ (m : Memory). m .links) (d .is);
-  rest = ap (λ (m : Memory). m .rest) (d .is);
-  long = d .long;
-}, ap (λ (m : Memory). m .list) (d .is))
+kept-place L n v s s′ d = (
+  record {
+    graph = ap (λ (m : Memory). m .graph) (d .is);
+    marks = ap (λ (m : Memory). m .marks) (d .is);
+    links = ap (λ (m : Memory). m .links) (d .is);
+    rest = ap (λ (m : Memory). m .rest) (d .is);
+    long = d .long;
+  },
+  ap (λ (m : Memory). m .list) (d .is),
+)

@@ -1,35 +1,35 @@
 -- Bytes over a list; the table of the variables seen; what is told.
 -- Here, in order: bytes over a list; indices; a number found, and a new one; the table of none.
 -- Assumes nothing.
-use Prim.Native.Nat.{ℕ, zero, suc, _+_, _-_, _*_, _/_, _%_, _≤_, _<_}
+use Prim.Native.Nat.{ℕ, suc, _+_, _-_, _*_, _/_, _%_, _≤_, _<_}
 use native.Mathlib.Omega.{arith}
 use native.Mathlib.Numerals.{add-one}
-use native.Mathlib.Nat.{add-zero, zero-add, add-suc, suc-add}
+use native.Mathlib.Nat.{add-zero, add-suc, suc-add}
 use native.Mathlib.Decide.{ℕ-discrete}
-use mathlib.Core.Path.{_≡_, refl, sym, ap, _∙_, subst}
+use mathlib.Core.Path.{_≡_, refl, sym, ap, _∙_}
 use mathlib.Core.Logic.{_⊎_, inl, inr, _≢_}
 use mathlib.Core.Bool.{Bool, true, false}
 use mathlib.Core.Option.{Option, none, some}
-use mathlib.Core.List.{List, [], _∷_, _++_, append-assoc, append-nil, List·Memᴰ, List·Memᴰ·head, List·Memᴰ·tail, List·Memᴰ·not-nil, List·Memᴰ·append-cases, List·Memᴰ·eq-of-singleton}
-use lib.ListN.{length, getD, take, drop, set, replicate, length-set, length-drop, length-append, getD-replicate, drop-of-length-le}
-use lib.Seq.{sets, length-sets, sets-eq, take-suc-set, length-take-le, take-all, drop-drop, getD-set-same, getD-set-other}
+use mathlib.Core.List.{List, [], _∷_, _++_, List·Memᴰ, List·Memᴰ·head, List·Memᴰ·tail, List·Memᴰ·not-nil, List·Memᴰ·append-cases, List·Memᴰ·eq-of-singleton}
+use lib.ListN.{length, getD, set, length-append, getD-replicate}
+use lib.Seq.{sets, length-sets, take-suc-set, length-take-le, getD-set-same, getD-set-other}
 use lib.Dec.{eqb}
-use borrow.Author.Tests.{eqb-true, eqb-false, eq-eqb, ne-eqb}
+use borrow.Author.Tests.{eq-eqb, ne-eqb}
 use Rattle.mem.specs.Words.{words}
 use Rattle.heap.specs.Graph.{indexOf, variable}
 use Rattle.heap.specs.Place.{Distinct}
 use Rattle.heap.proofs.Laws.Few.{few}
 use Rattle.heap.proofs.Laws.Shape.{indexOf-none}
-use Rattle.store.specs.Regions.{Room, graphOf, listOf, placesOf, framesOf, Memory, Did, setList, setPlace}
+use Rattle.store.specs.Regions.{listOf, placesOf, Memory, Did, setList, setPlace}
 use Rattle.store.proofs.Writes.{length-list, length-places}
-use Rattle.writer.specs.Walk.{Kept, weigh}
+use Rattle.writer.specs.Walk.{weigh}
 use Rattle.writer.specs.Owes.{after, numbered, tells}
-use Rattle.writer.specs.Written.{over, End, ends, seenOf, placeOf, Table, Clean, Within, Named, Told}
+use Rattle.writer.specs.Written.{over, ends, seenOf, placeOf, Table, Clean, Within, Named, Told}
 use Rattle.writer.specs.declared.Met.{Met}
 use Rattle.writer.specs.declared.Met.the-variants.{Made, Free, Nothing}
 use Rattle.book.specs.declared.ConNo.{ConNo}
 use Rattle.store.specs.declared.NodeNo.{NodeNo}
-use Rattle.writer.proofs.Turning.{kept-none, kept-then}
+use Rattle.writer.proofs.Turning.{kept-none}
 
 -- bytes over a list
 pub free-bytes : (l : List ℕ) (k n : ℕ) → n < 65536 → set (set (set l k 12) (k + 1) (n % 256)) (k + 2) (n / 256) ≡ over l k (variable n)

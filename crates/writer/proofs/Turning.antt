@@ -5,16 +5,14 @@ use Prim.Native.Nat.{ℕ, suc, _+_, _*_, _≤_, _<_}
 use native.Mathlib.Omega.{arith}
 use native.Mathlib.Numerals.{add-one}
 use mathlib.Core.Path.{_≡_, refl, sym, ap, _∙_, subst}
-use mathlib.Core.List.{List, [], _∷_}
+use mathlib.Core.List.{List, _∷_}
 use lib.ListN.{length, getD, set}
 use borrow.Author.Tests.{lt-ltb, le-ltb}
 use Rattle.book.specs.Syntax.{con, fun}
-use Rattle.book.specs.declared.ConNo.{ConNo}
 use Rattle.mem.specs.Words.{words}
 use Rattle.heap.specs.Graph.{Graph, Node, cell, var, fwd, node, follow, look, args}
 use Rattle.store.specs.Rows.{seen}
 use Rattle.store.specs.Regions.{Room, graphOf, framesOf, Memory, Did, withFrames, setFrame, setNext, Frame, frameAt, stack}
-use Rattle.store.specs.declared.NodeNo.{NodeNo}
 use Rattle.store.specs.declared.Seen.{Seen}
 use Rattle.store.specs.declared.Seen.the-variants.{Var, Con, Call, Fwd}
 use Rattle.store.proofs.Laws.{length-graph, countOf, count-seen}

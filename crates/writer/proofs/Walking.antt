@@ -4,20 +4,20 @@
 use Prim.Native.Nat.{ℕ, zero, suc, _+_, _*_, _≤_, _<_}
 use native.Mathlib.Omega.{arith}
 use native.Mathlib.Decide.{decLt}
-use mathlib.Core.Path.{_≡_, refl, sym, ap, _∙_, subst}
+use mathlib.Core.Path.{_≡_, refl, ap}
 use mathlib.Core.Bool.{Bool, true, false}
 use mathlib.Core.List.{List, [], _∷_}
 use lib.ListN.{length, getD, List·getD-eq-default}
 use lib.Dec.{ltb}
-use borrow.Author.Tests.{ltb-true, lt-ltb, le-ltb}
-use Rattle.book.specs.Syntax.{Symbol, con, fun}
+use borrow.Author.Tests.{ltb-true}
+use Rattle.book.specs.Syntax.{con, fun}
 use Rattle.mem.specs.Words.{words}
 use Rattle.heap.specs.Graph.{Graph, Node, cell, var, fwd, node, follow, look, args}
 use Rattle.heap.proofs.Laws.Reach.{mem-at}
 use Rattle.store.specs.Regions.{graphOf, Frame, stack}
 use Rattle.store.proofs.Laws.{arg-word, length-graph}
 use Rattle.standing.specs.Part.{Part, Handle}
-use Rattle.writer.specs.Walk.{Reads, Read, stood, Stood, visitNode, visited, pick, stepped}
+use Rattle.writer.specs.Walk.{Read, stood, Stood, visitNode, visited, pick, stepped}
 use Rattle.writer.specs.Written.{Within}
 use Rattle.writer.specs.declared.Met.the-variants.{Nothing}
 

@@ -2,7 +2,7 @@
 -- Here, in order: the roots; what a walk may rely on; a visit and a step; what stays.
 -- Not here: what the walk owes (Owes), what is written (Written).
 -- Assumes nothing.
-use Prim.Native.Nat.{ℕ, suc, _+_, _≤_, _<_}
+use Prim.Native.Nat.{ℕ, suc, _+_, _≤_}
 use mathlib.Core.Path.{_≡_}
 use mathlib.Core.Bool.{Bool, true, false}
 use mathlib.Core.List.{List, [], _∷_, List·Memᴰ}

@@ -3,13 +3,13 @@
 -- Assumes nothing.
 use Prim.Native.Nat.{ℕ, suc, _+_, _≤_, _<_}
 use mathlib.Core.Path.{_≡_}
-use mathlib.Core.List.{List, [], _∷_, _++_, List·Memᴰ}
+use mathlib.Core.List.{List, _++_, List·Memᴰ}
 use mathlib.Core.Option.{Option, none, some}
 use lib.ListN.{length, getD, take, drop, replicate}
 use lib.Seq.{sets}
-use Rattle.heap.specs.Graph.{Graph, indexOf, variable, writeEach}
+use Rattle.heap.specs.Graph.{indexOf, variable}
 use Rattle.heap.specs.Place.{Distinct}
-use Rattle.store.specs.Regions.{graphOf, listOf, placesOf, framesOf}
+use Rattle.store.specs.Regions.{listOf, placesOf, framesOf}
 use Rattle.writer.specs.Walk.{Kept}
 use Rattle.writer.specs.Owes.{numbered}
 use Rattle.writer.specs.declared.Met.{Met}
