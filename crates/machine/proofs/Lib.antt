@@ -1,0 +1,6 @@
+pub mod Codes
+pub mod Walking
+pub mod Registers
+pub mod Frames
+pub mod Runs
+pub mod Makes

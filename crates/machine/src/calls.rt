@@ -1,0 +1,117 @@
+// The code of the call on the stack's top, and of each call that is walked instead; the settled stack.
+use store::NodeNo;
+use store::Seen;
+use crate::Cur;
+use crate::Regs;
+use crate::Stop;
+use crate::Ended;
+use crate::tables;
+use crate::ops;
+use crate::steps;
+ghost use mathlib.Core.Path.{_≡_};
+ghost use Prim.Native.Nat.{ℕ, _+_, _<_, _≤_};
+ghost use lib.ListN.{length};
+ghost use Rattle.store.specs.Regions.{Room};
+ghost use Rattle.machine.specs.Tables.{Space, codeBound};
+ghost use Rattle.machine.specs.Drive.{Topped, Drove, Settled};
+
+// The code of the call on the stack's top, all registers empty.
+pub fn on_top(s: &mut [u8], limit: usize, base: usize, code: &[u8], top: u16, made: usize) -> Ended
+    requires { ⌜ Space limit base (now s) ⌝ }
+    requires { ⌜ length (now code) ≤ codeBound ⌝ }
+    ensures { λ r. ⌜ Topped limit base (now (code .entry)) top made (now (s .entry)) (now (s .exit)) r ⌝ }
+{
+    let mut r = Regs {
+        pc: 0,
+        top: top,
+        cur: Cur::Empty,
+        terms: 0,
+        vars: 0,
+        made: made,
+    };
+    if top == 0 {
+        return Ended {
+            regs: r,
+            stop: Stop::Broken,
+        };
+    }
+    let at = store::follow(s, limit, NodeNo(top - 1));
+    let k = ops::node_at(s, limit, at);
+    let Seen::Call(f, _) = k else {
+        return Ended {
+            regs: r,
+            stop: Stop::Broken,
+        };
+    };
+    r.pc = tables::start_of(s, limit, base, f);
+    steps::exec(s, limit, base, code, r, code.len())
+}
+
+// The code of the call on the stack's top, and of each call that is walked instead, at most n of them.
+pub fn drive(s: &mut [u8], limit: usize, base: usize, code: &[u8], top: u16, made: usize, n: usize) -> Ended
+    requires { ⌜ Space limit base (now s) ⌝ }
+    requires { ⌜ length (now code) ≤ codeBound ⌝ }
+    ensures { λ r. ⌜ Drove limit base (now (code .entry)) n top made (now (s .entry)) (now (s .exit)) r ⌝ }
+{
+    let mut t = top;
+    let mut k = made;
+    let mut left = n;
+    while left > 0 {
+        let e = on_top(s, limit, base, code, t, k);
+        let regs = e.regs;
+        let stop = e.stop;
+        let Stop::Demand(h) = stop else {
+            return Ended {
+                regs: regs,
+                stop: stop,
+            };
+        };
+        if h.0 as usize >= limit {
+            return Ended {
+                regs: regs,
+                stop: Stop::Broken,
+            };
+        }
+        store::put_link(s, limit, h, t);
+        t = h.0 + 1;
+        k = regs.made;
+        left -= 1;
+    }
+    Ended {
+        regs: Regs {
+            pc: 0,
+            top: t,
+            cur: Cur::Empty,
+            terms: 0,
+            vars: 0,
+            made: k,
+        },
+        stop: Stop::Broken,
+    }
+}
+
+// The stack's top without the constructors and variables there.
+pub fn settle(s: &[u8], limit: usize, top: u16) -> u16
+    requires { ⌜ Room limit (now s) ⌝ }
+    ensures { λ r. ⌜ Settled limit (now (s .entry)) top r ⌝ }
+{
+    let mut t = top;
+    let mut left = limit;
+    while left > 0 {
+        if t == 0 {
+            return 0;
+        }
+        let n = NodeNo(t - 1);
+        let at = store::follow(s, limit, n);
+        let k = ops::node_at(s, limit, at);
+        if let Seen::Call(_, _) = k {
+            return t;
+        }
+        if n.0 as usize >= limit {
+            return 0;
+        }
+        t = store::get_link(s, limit, n);
+        left -= 1;
+    }
+    t
+}
