@@ -4,3 +4,4 @@ pub mod Registers
 pub mod Frames
 pub mod Runs
 pub mod Makes
+pub mod Execs

@@ -170,8 +170,8 @@ module _ (L base : ℕ) (code : List ℕ) (r : Regs) (s : List ℕ) (fine : Fine
         }
 
 -- a register set: a new one, or one that is there
-pub set-new : (r : Regs) (v k : ℕ) → v ≡ r .vars → v < 256 → (w : List ℕ) → 576 ≤ length w → take (v + 1) (set w v k) ≡ m.put (take (r .vars) w) v k
-set-new r v k e h w l = rw (← e) (put-next v k w (omega arith))
+pub set-new : (n v k : ℕ) → v ≡ n → v < 256 → (w : List ℕ) → 576 ≤ length w → take (v + 1) (set w v k) ≡ m.put (take n w) v k
+set-new n v k e h w l = rw (← e) (put-next v k w (omega arith))
 
-pub set-there : (r : Regs) (v k : ℕ) → v < r .vars → r .vars ≤ 256 → (w : List ℕ) → 576 ≤ length w → take (r .vars) (set w v k) ≡ m.put (take (r .vars) w) v k
-set-there r v k h f w l = put-there v (r .vars) k w h (omega arith)
+pub set-there : (n v k : ℕ) → v < n → n ≤ 256 → (w : List ℕ) → 576 ≤ length w → take n (set w v k) ≡ m.put (take n w) v k
+set-there n v k h f w l = put-there v n k w h (omega arith)

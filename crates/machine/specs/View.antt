@@ -15,6 +15,10 @@ use Rattle.engine.specs.Code as c
 use Rattle.engine.specs.Machine as m
 use Rattle.machine.specs.Tables.{varsAt, termsAt}
 use Rattle.store.specs.declared.Head.{Head}
+use Rattle.store.specs.declared.Seen.{Seen}
+use Rattle.store.specs.declared.Seen.the-variants.{Var, Con, Call, Fwd}
+use Rattle.machine.specs.declared.Called.{Called}
+use Rattle.machine.specs.declared.Called.the-variants.{Nothing, Fun}
 use Rattle.machine.specs.declared.Arm.{Arm}
 use Rattle.machine.specs.declared.Arm.the-variants.{None, Of}
 use Rattle.machine.specs.declared.Regs.{Regs}
@@ -105,6 +109,23 @@ SymbolAt code at h = symbolOf h ≡ c.symbol (drop at code)
 unfoldable pub armIs : Arm → Option ℕ
 armIs None = none
 armIs (Of j) = some j
+
+-- which function what is seen calls
+abbrev pub calledOf : Seen → Called
+calledOf Var = Nothing
+calledOf (Con y n) = Nothing
+calledOf (Call f n) = Fun f
+calledOf (Fwd t) = Nothing
+
+-- the call that is walked instead
+abbrev pub demandOf : Stop → Cur
+demandOf (Demand h) = Holds h
+demandOf (Becomes h k) = Empty
+demandOf (Parts h) = Empty
+demandOf Fails = Empty
+demandOf Misfits = Empty
+demandOf Broken = Empty
+demandOf Full = Empty
 
 -- how code ended; the alternatives' terms are the pre-term stack, the first alternative deepest
 unfoldable pub stopOf : ℕ → ℕ → List ℕ → Regs → Stop → m.Stop Store

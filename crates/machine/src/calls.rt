@@ -5,6 +5,7 @@ use crate::Cur;
 use crate::Regs;
 use crate::Stop;
 use crate::Ended;
+use crate::Called;
 use crate::tables;
 use crate::ops;
 use crate::steps;
@@ -13,7 +14,35 @@ ghost use Prim.Native.Nat.{ℕ, _+_, _<_, _≤_};
 ghost use lib.ListN.{length};
 ghost use Rattle.store.specs.Regions.{Room};
 ghost use Rattle.machine.specs.Tables.{Space, codeBound};
+ghost use Rattle.machine.specs.View.{calledOf, demandOf};
 ghost use Rattle.machine.specs.Drive.{Topped, Drove, Settled};
+
+// Which function what is seen calls.
+fn called(k: Seen) -> Called
+    ensures { λ r. ⌜ r ≡ calledOf k ⌝ }
+{
+    match k {
+        Seen::Call(f, _) => Called::Fun(f),
+        Seen::Con(_, _) => Called::Nothing,
+        Seen::Var => Called::Nothing,
+        Seen::Fwd(_) => Called::Nothing,
+    }
+}
+
+// The call that is walked instead.
+fn demanded(stop: Stop) -> Cur
+    ensures { λ r. ⌜ r ≡ demandOf stop ⌝ }
+{
+    match stop {
+        Stop::Demand(h) => Cur::Holds(h),
+        Stop::Becomes(_, _) => Cur::Empty,
+        Stop::Parts(_) => Cur::Empty,
+        Stop::Fails => Cur::Empty,
+        Stop::Misfits => Cur::Empty,
+        Stop::Broken => Cur::Empty,
+        Stop::Full => Cur::Empty,
+    }
+}
 
 // The code of the call on the stack's top, all registers empty.
 pub fn on_top(s: &mut [u8], limit: usize, base: usize, code: &[u8], top: u16, made: usize) -> Ended
@@ -37,7 +66,8 @@ pub fn on_top(s: &mut [u8], limit: usize, base: usize, code: &[u8], top: u16, ma
     }
     let at = store::follow(s, limit, NodeNo(top - 1));
     let k = ops::node_at(s, limit, at);
-    let Seen::Call(f, _) = k else {
+    let call = called(k);
+    let Called::Fun(f) = call else {
         return Ended {
             regs: r,
             stop: Stop::Broken,
@@ -60,7 +90,8 @@ pub fn drive(s: &mut [u8], limit: usize, base: usize, code: &[u8], top: u16, mad
         let e = on_top(s, limit, base, code, t, k);
         let regs = e.regs;
         let stop = e.stop;
-        let Stop::Demand(h) = stop else {
+        let next = demanded(stop);
+        let Cur::Holds(h) = next else {
             return Ended {
                 regs: regs,
                 stop: stop,
@@ -104,7 +135,8 @@ pub fn settle(s: &[u8], limit: usize, top: u16) -> u16
         let n = NodeNo(t - 1);
         let at = store::follow(s, limit, n);
         let k = ops::node_at(s, limit, at);
-        if let Seen::Call(_, _) = k {
+        let call = called(k);
+        if let Called::Fun(_) = call {
             return t;
         }
         if n.0 as usize >= limit {

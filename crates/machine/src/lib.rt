@@ -8,6 +8,7 @@ pub mod ops;
 pub mod steps;
 pub mod calls;
 
+use book::FunNo;
 use store::NodeNo;
 use store::Head;
 ghost use mathlib.Core.Path.{_≡_};
@@ -80,4 +81,10 @@ pub struct Ended {
 pub enum Arm {
     None,
     Of(u16),
+}
+
+// Which function what is seen calls.
+pub enum Called {
+    Nothing,
+    Fun(FunNo),
 }

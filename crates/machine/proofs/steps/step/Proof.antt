@@ -1,39 +1,29 @@
+use Rattle.machine.proofs.Execs.{width-small, step-past, step-is}
+use native.Mathlib.Omega.{arith}
 use borrow.Author.Needs.{needs}
 use Rattle.machine.proofs.steps.step.Statement.{statement}
 use Rattle.machine.proofs.steps.step.Tie as tie
-use Rattle.machine.proofs.steps.step.Reads as reads
-use Rattle.machine.proofs.steps.step.Lts as lts
-use Rattle.machine.proofs.code.decode_at.Reads as decode-at-reads
-use Rattle.machine.proofs.code.width_of.Reads as width-of-reads
-use Rattle.machine.proofs.steps.run_op.Reads as run-op-reads
 
--- src/steps.rt:60:9
 returns : tie.Need-returns
-returns c = ?
+returns c = step-past _ _ _ _ _ (c .before .before .before .pre .1 .0) (c .if1 .taken)
 
--- src/steps.rt:65:9
 decode-at-requires : tie.Need-decode-at-requires
 decode-at-requires c κs = search needs
 
--- src/steps.rt:66:9
 width-of-requires : tie.Need-width-of-requires
 width-of-requires c κs = search needs
 
--- src/steps.rt:68:12
 add-r : tie.Need-add-r
-add-r c = ?
+add-r c = omega (arith, c .width-of .ensures, width-small (c .before .decode-at .result))
 
--- src/steps.rt:69:5
 run-op-requires : tie.Need-run-op-requires
-run-op-requires c κs = ?
+run-op-requires c κs = (c .before .before .before .before .before .before .pre .0, (c .before .before .before .before .before .before .pre .1 .0, (omega (arith, c .before .width-of .ensures, width-small (c .before .before .decode-at .result)), omega (arith, c .before .width-of .ensures, width-small (c .before .before .decode-at .result)))))
 
--- src/steps.rt:52:1
 same-length : tie.Need-same-length
 same-length c = search needs
 
--- src/steps.rt:52:1
 returns-2 : tie.Need-returns-2
-returns-2 c = ?
+returns-2 c = step-is _ _ _ _ _ (c .before .before .before .before .before .before .before .before .before .pre .1 .0) _ _ (c .before .before .before .before .before .decode-at .ensures) (c .before .before .before .before .width-of .ensures) (c .before .before .run-op .ensures)
 
 pub step-spec : {M : Type 1} → statement M
 step-spec =
