@@ -5,3 +5,5 @@ pub mod Frames
 pub mod Runs
 pub mod Makes
 pub mod Execs
+pub mod Stacks
+pub mod Driving

@@ -1,38 +1,28 @@
 use borrow.Author.Needs.{needs}
 use Rattle.machine.proofs.calls.called.Statement.{statement}
 use Rattle.machine.proofs.calls.called.Tie as tie
-use Rattle.machine.proofs.calls.called.Reads as reads
-use Rattle.machine.proofs.calls.called.Lts as lts
 
--- src/calls.rt:25:20
 enum-known-k : tie.Need-enum-known-k
 enum-known-k c = search needs
 
--- src/calls.rt:26:28
 enum-told : tie.Need-enum-told
 enum-told c = search needs
 
--- src/calls.rt:27:22
 enum-told-2 : tie.Need-enum-told-2
 enum-told-2 c = search needs
 
--- src/calls.rt:28:25
 enum-told-3 : tie.Need-enum-told-3
 enum-told-3 c = search needs
 
--- src/calls.rt:21:1
 returns : tie.Need-returns
-returns c = ?
+returns c = rw (c .before .k .given .1)
 
--- src/calls.rt:21:1
 returns-2 : tie.Need-returns-2
 returns-2 c = search needs
 
--- src/calls.rt:21:1
 returns-3 : tie.Need-returns-3
 returns-3 c = search needs
 
--- src/calls.rt:21:1
 returns-4 : tie.Need-returns-4
 returns-4 c = search needs
 

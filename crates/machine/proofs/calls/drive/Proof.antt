@@ -1,84 +1,66 @@
+use Rattle.machine.proofs.Driving.{Driven, driven-start, driven-out, driven-ends, driven-past, driven-on}
+use mathlib.Core.Path.{_≡_, refl, ap, sym, _∙_}
+use borrow.Author.Needs.{needs}
+use native.Mathlib.Omega.{arith}
 use Rattle.machine.proofs.calls.drive.Statement.{statement}
 use Rattle.machine.proofs.calls.drive.Tie as tie
-use Rattle.machine.proofs.calls.drive.Reads as reads
-use Rattle.machine.proofs.calls.drive.Lts as lts
-use Rattle.machine.proofs.calls.demanded.Reads as demanded-reads
-use Rattle.machine.proofs.calls.on_top.Reads as on-top-reads
-use Rattle.store.proofs.put_link.Reads as put-link-reads
 
 abbrev Inv-loop : tie.InvT-loop
-Inv-loop s₀ limit base code top made n t₀ k₀ left₀ s t k left = ?
+Inv-loop s₀ limit base code top made n t₀ k₀ left₀ s t k left = Driven limit base code n top made s₀ s t k left
 
 abbrev μ-loop : tie.MeasureT-loop
-μ-loop s₀ limit base code top made n t₀ k₀ left₀ s t k left = ?
+μ-loop s₀ limit base code top made n t₀ k₀ left₀ s t k left = left
 
--- src/calls.rt:89:5
 loop-holds : tie.Need-loop-holds Inv-loop μ-loop
-loop-holds c = ?
+loop-holds c = driven-start _ _ _ _ _ _ _
 
--- src/calls.rt:90:13
 on-top-requires : tie.Need-on-top-requires Inv-loop μ-loop
-on-top-requires c κs = ?
+on-top-requires c κs = ((c .before .before .before .before .before .pre .0 .0, c .before .before .before .before .before .pre .0 .1, rw (c .before .before .loop .inv .kept .long) (c .before .before .before .before .before .pre .0 .2)), c .before .before .before .before .before .pre .1)
 
--- src/calls.rt:93:13
 demanded-requires : tie.Need-demanded-requires Inv-loop μ-loop
-demanded-requires c κs = ?
+demanded-requires c κs = search needs
 
--- src/calls.rt:94:24
 enum-known-next : tie.Need-enum-known-next Inv-loop μ-loop
-enum-known-next c = ?
+enum-known-next c = search needs
 
--- src/calls.rt:95:13
 enum-told : tie.Need-enum-told Inv-loop μ-loop
-enum-told c = ?
+enum-told c = search needs
 
--- src/calls.rt:95:13
 same-length : tie.Need-same-length Inv-loop μ-loop
-same-length c = ?
+same-length c = c .before .before .before .before .before .before .on-top .kept .0 ∙ c .before .before .before .before .before .before .before .before .before .loop .inv .long
 
--- src/calls.rt:95:13
 returns : tie.Need-returns Inv-loop μ-loop
-returns c = ?
+returns c = driven-ends (c .before .before .before .before .before .before .before .before .before .loop .inv) (omega arith) (c .before .before .before .before .before .before .on-top .ensures) _ (c .before .before .demanded .ensures) (c .enum-told .given .1)
 
--- src/calls.rt:100:12
 cast-if1 : tie.Need-cast-if1 Inv-loop μ-loop
-cast-if1 c = ?
+cast-if1 c = search needs
 
--- src/calls.rt:101:13
 same-length-2 : tie.Need-same-length-2 Inv-loop μ-loop
-same-length-2 c = ?
+same-length-2 c = c .before .before .before .before .before .before .before .before .before .on-top .kept .0 ∙ c .before .before .before .before .before .before .before .before .before .before .before .before .loop .inv .long
 
--- src/calls.rt:101:13
 returns-2 : tie.Need-returns-2 Inv-loop μ-loop
-returns-2 c = ?
+returns-2 c = driven-past (c .before .before .before .before .before .before .before .before .before .before .before .before .loop .inv) (omega arith) (c .before .before .before .before .before .before .before .before .before .on-top .ensures) _ _ (c .before .before .before .before .before .demanded .ensures) (c .before .before .before .next .given .1) (c .if1 .taken)
 
--- src/calls.rt:106:9
 put-link-requires : tie.Need-put-link-requires Inv-loop μ-loop
-put-link-requires c κs = ?
+put-link-requires c κs = ((c .before .before .before .before .before .before .before .before .before .before .before .before .before .before .before .before .pre .0 .0, rw (c .before .before .before .before .before .before .before .before .before .before .on-top .ensures .kept .long, c .before .before .before .before .before .before .before .before .before .before .before .before .before .loop .inv .kept .long) (let w = c .before .before .before .before .before .before .before .before .before .before .before .before .before .before .before .before .pre .0 .2 in omega arith)), c .before .if1 .left)
 
--- src/calls.rt:107:13
 add-t : tie.Need-add-t Inv-loop μ-loop
-add-t c = ?
+add-t c = omega (arith, c .before .before .before .before .before .if1 .left, c .before .before .before .before .before .before .before .before .before .before .before .before .before .before .before .before .before .before .before .before .pre .0 .0)
 
--- src/calls.rt:109:9
 sub-left : tie.Need-sub-left Inv-loop μ-loop
-sub-left c = ?
+sub-left c = omega arith
 
--- src/calls.rt:89:5
 loop-less : tie.Need-loop-less Inv-loop μ-loop
-loop-less c = ?
+loop-less c = omega arith
 
--- src/calls.rt:89:5
 loop-again : tie.Need-loop-again Inv-loop μ-loop
-loop-again c = ?
+loop-again c = driven-on (c .before .before .before .before .before .before .before .before .before .before .before .before .before .before .before .before .before .loop .inv) (c .before .before .before .before .before .before .before .before .before .before .before .before .before .before .before .before .loop-test .taken) (c .before .before .before .before .before .before .before .before .before .before .before .before .before .before .on-top .ensures) _ _ (c .before .before .before .before .before .before .before .before .before .before .demanded .ensures) (c .before .before .before .before .before .before .before .before .next .given .1) (c .before .before .before .before .before .if1 .left) (rw (c .before .before .before .before .before .before .before .before .before .before .before .before .before .before .before .before .before .loop .inv .kept .long) (let w = c .before .before .before .before .before .before .before .before .before .before .before .before .before .before .before .before .before .before .before .before .pre .0 .2 in omega arith)) (c .before .before .before .put-link .ensures) (c .before .before .before .put-link .kept .0 ∙ c .before .before .before .before .before .before .before .before .before .before .before .before .before .before .on-top .kept .0)
 
--- src/calls.rt:81:1
 same-length-3 : tie.Need-same-length-3 Inv-loop μ-loop
-same-length-3 c = ?
+same-length-3 c = c .before .loop .inv .long
 
--- src/calls.rt:81:1
 returns-3 : tie.Need-returns-3 Inv-loop μ-loop
-returns-3 c = ?
+returns-3 c = driven-out (c .before .loop .inv) (omega arith)
 
 pub drive-spec : {M : Type 1} → statement M
 drive-spec =

@@ -1,65 +1,47 @@
+use Rattle.machine.proofs.Driving.{topped-empty, topped-other, topped-call}
+use native.Mathlib.Omega.{arith}
 use borrow.Author.Needs.{needs}
 use Rattle.machine.proofs.calls.on_top.Statement.{statement}
 use Rattle.machine.proofs.calls.on_top.Tie as tie
-use Rattle.machine.proofs.calls.on_top.Reads as reads
-use Rattle.machine.proofs.calls.on_top.Lts as lts
-use Rattle.machine.proofs.calls.called.Reads as called-reads
-use Rattle.machine.proofs.ops.node_at.Reads as node-at-reads
-use Rattle.machine.proofs.steps.exec.Reads as exec-reads
-use Rattle.machine.proofs.tables.start_of.Reads as start-of-reads
-use Rattle.store.proofs.follow.Reads as follow-reads
 
--- src/calls.rt:62:9
 returns : tie.Need-returns
-returns c = ?
+returns c = topped-empty _ _ _ _ _ _ _ (c .if1 .taken)
 
--- src/calls.rt:67:45
 sub-t17 : tie.Need-sub-t17
 sub-t17 c = search needs
 
--- src/calls.rt:67:9
 follow-requires : tie.Need-follow-requires
 follow-requires c κs = search needs
 
--- src/calls.rt:68:9
 node-at-requires : tie.Need-node-at-requires
 node-at-requires c κs = search needs
 
--- src/calls.rt:69:9
 called-requires : tie.Need-called-requires
 called-requires c κs = search needs
 
--- src/calls.rt:70:21
 enum-known-call : tie.Need-enum-known-call
 enum-known-call c = search needs
 
--- src/calls.rt:73:19
 enum-told : tie.Need-enum-told
 enum-told c = search needs
 
--- src/calls.rt:71:9
 same-length : tie.Need-same-length
 same-length c = search needs
 
--- src/calls.rt:71:9
 returns-2 : tie.Need-returns-2
-returns-2 c = ?
+returns-2 c = topped-other _ _ _ _ _ _ _ _ _ (omega arith) (c .before .before .before .before .before .follow .ensures) (c .before .before .before .node-at .ensures) (c .before .before .called .ensures) _ (c .enum-told .given .1)
 
--- src/calls.rt:76:5
 start-of-requires : tie.Need-start-of-requires
 start-of-requires c κs = search needs
 
--- src/calls.rt:77:5
 exec-requires : tie.Need-exec-requires
 exec-requires c κs = search needs
 
--- src/calls.rt:48:1
 same-length-2 : tie.Need-same-length-2
 same-length-2 c = search needs
 
--- src/calls.rt:48:1
 returns-3 : tie.Need-returns-3
-returns-3 c = ?
+returns-3 c = topped-call _ _ _ _ _ _ _ _ _ (omega arith) (c .before .before .before .before .before .before .before .before .before .before .before .before .follow .ensures) (c .before .before .before .before .before .before .before .before .before .before .node-at .ensures) (c .before .before .before .before .before .before .before .before .before .called .ensures) _ _ (c .before .before .before .before .before .before .before .call .given .1) (c .before .before .before .before .start-of .ensures) (c .before .before .exec .ensures)
 
 pub on-top-spec : {M : Type 1} → statement M
 on-top-spec =

@@ -1,80 +1,62 @@
+use Rattle.machine.proofs.Stacks.{Settling, settling-start, settling-empty, settling-out, settling-call, settling-past, settling-next}
+use borrow.Author.Needs.{needs}
+use native.Mathlib.Omega.{arith}
 use Rattle.machine.proofs.calls.settle.Statement.{statement}
 use Rattle.machine.proofs.calls.settle.Tie as tie
-use Rattle.machine.proofs.calls.settle.Reads as reads
-use Rattle.machine.proofs.calls.settle.Lts as lts
-use Rattle.machine.proofs.calls.called.Reads as called-reads
-use Rattle.machine.proofs.ops.node_at.Reads as node-at-reads
-use Rattle.store.proofs.follow.Reads as follow-reads
-use Rattle.store.proofs.get_link.Reads as get-link-reads
 
 abbrev Inv-loop : tie.InvT-loop
-Inv-loop s limit top t₀ left₀ t left = ?
+Inv-loop s limit top t₀ left₀ t left = Settling limit s top t left
 
 abbrev μ-loop : tie.MeasureT-loop
-μ-loop s limit top t₀ left₀ t left = ?
+μ-loop s limit top t₀ left₀ t left = left
 
--- src/calls.rt:131:5
 loop-holds : tie.Need-loop-holds Inv-loop μ-loop
-loop-holds c = ?
+loop-holds c = settling-start _ _ _
 
--- src/calls.rt:133:13
 returns : tie.Need-returns Inv-loop μ-loop
-returns c = ?
+returns c = settling-empty (c .before .before .loop .inv) (c .if1 .taken)
 
--- src/calls.rt:135:24
 sub-t11 : tie.Need-sub-t11 Inv-loop μ-loop
-sub-t11 c = ?
+sub-t11 c = omega arith
 
--- src/calls.rt:136:13
 follow-requires : tie.Need-follow-requires Inv-loop μ-loop
-follow-requires c κs = ?
+follow-requires c κs = c .before .before .before .before .pre
 
--- src/calls.rt:137:13
 node-at-requires : tie.Need-node-at-requires Inv-loop μ-loop
-node-at-requires c κs = ?
+node-at-requires c κs = c .before .before .before .before .before .pre
 
--- src/calls.rt:138:13
 called-requires : tie.Need-called-requires Inv-loop μ-loop
-called-requires c κs = ?
+called-requires c κs = search needs
 
--- src/calls.rt:140:13
 enum-told : tie.Need-enum-told Inv-loop μ-loop
-enum-told c = ?
+enum-told c = search needs
 
--- src/calls.rt:140:13
 returns-2 : tie.Need-returns-2 Inv-loop μ-loop
-returns-2 c = ?
+returns-2 c = settling-call (c .before .before .before .before .before .before .before .loop .inv) _ _ (omega arith) (c .before .before .before .before .follow .ensures) (c .before .before .before .node-at .ensures) _ _ (c .before .before .called .ensures) (c .enum-told .given .1)
 
 enum-told-2 : tie.Need-enum-told-2 Inv-loop μ-loop
-enum-told-2 c = ?
+enum-told-2 c = search needs
 
--- src/calls.rt:142:12
 cast-if2 : tie.Need-cast-if2 Inv-loop μ-loop
-cast-if2 c = ?
+cast-if2 c = search needs
 
--- src/calls.rt:143:13
 returns-3 : tie.Need-returns-3 Inv-loop μ-loop
-returns-3 c = ?
+returns-3 c = settling-past (c .before .before .before .before .before .before .before .before .before .loop .inv) _ _ (omega arith) (c .before .before .before .before .before .before .follow .ensures) (c .before .before .before .before .before .node-at .ensures) _ (c .before .before .before .before .called .ensures) (c .before .before .enum-told2 .given .1) (c .before .before .before .before .before .before .before .before .before .before .before .pre .1) (c .if2 .taken)
 
--- src/calls.rt:145:9
 get-link-requires : tie.Need-get-link-requires Inv-loop μ-loop
-get-link-requires c κs = ?
+get-link-requires c κs = (c .before .before .before .before .before .before .before .before .before .before .before .pre, c .if2 .left)
 
--- src/calls.rt:146:9
 sub-left : tie.Need-sub-left Inv-loop μ-loop
-sub-left c = ?
+sub-left c = omega arith
 
--- src/calls.rt:131:5
 loop-less : tie.Need-loop-less Inv-loop μ-loop
-loop-less c = ?
+loop-less c = omega arith
 
--- src/calls.rt:131:5
 loop-again : tie.Need-loop-again Inv-loop μ-loop
-loop-again c = ?
+loop-again c = settling-next (c .before .before .before .before .before .before .before .before .before .before .loop .inv) _ _ (omega arith) (c .before .before .before .before .before .before .before .follow .ensures) (c .before .before .before .before .before .before .node-at .ensures) _ _ (c .before .before .before .before .before .called .ensures) (c .before .before .before .enum-told2 .given .1) (omega arith) (c .get-link .ensures)
 
--- src/calls.rt:125:1
 returns-4 : tie.Need-returns-4 Inv-loop μ-loop
-returns-4 c = ?
+returns-4 c = settling-out (c .before .loop .inv) (omega arith)
 
 pub settle-spec : {M : Type 1} → statement M
 settle-spec =
