@@ -263,8 +263,7 @@ module _ {L base : ℕ} {code : List ℕ} {n t₀ k₀ : ℕ} {s₀ s : List ℕ
             let pushed : stackOf L s″ (h .0 + 1) ≡ h .0 ∷ stackOf L s t = stack-link L s′ s″ (h .0) t d (rw (T .kept .long) room) low away (rw top (omega arith)) ∙ ap (λ (N : List ℕ). h .0 ∷ N) top in
             let graph : graphOf L s″ ≡ graphOf L s′ = ap (λ (m : Memory). m .graph) (d .is) in
             let store : storeOf L (e .regs .made) s″ ≡ storeOf L (e .regs .made) s′ = rw graph in
-            let links : linksOf L s″ ≡ set (linksOf L s′) (h .0) t = ap (λ (m : Memory). m .links) (d .is) in
-            (
+            let links : linksOf L s″ ≡ set (linksOf L s′) (h .0) t = ap (λ (m : Memory). m .links) (d .is) in (
               rw (pushed, store) (goes-on p q u f),
               rw (pushed, store) (fr .2),
               λ j out.

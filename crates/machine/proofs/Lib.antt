@@ -3,7 +3,8 @@ pub mod Walking
 pub mod Registers
 pub mod Frames
 pub mod Runs
-pub mod Makes
+pub mod Making
 pub mod Execs
 pub mod Stacks
 pub mod Driving
+pub mod Rooms

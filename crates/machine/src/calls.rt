@@ -1,14 +1,14 @@
 // The code of the call on the stack's top, and of each call that is walked instead; the settled stack.
-use store::NodeNo;
-use store::Seen;
+use crate::Called;
 use crate::Cur;
+use crate::Ended;
 use crate::Regs;
 use crate::Stop;
-use crate::Ended;
-use crate::Called;
-use crate::tables;
 use crate::ops;
 use crate::steps;
+use crate::tables;
+use store::NodeNo;
+use store::Seen;
 ghost use mathlib.Core.Path.{_≡_};
 ghost use Prim.Native.Nat.{ℕ, _+_, _<_, _≤_};
 ghost use lib.ListN.{length};
@@ -78,7 +78,15 @@ pub fn on_top(s: &mut [u8], limit: usize, base: usize, code: &[u8], top: u16, ma
 }
 
 // The code of the call on the stack's top, and of each call that is walked instead, at most n of them.
-pub fn drive(s: &mut [u8], limit: usize, base: usize, code: &[u8], top: u16, made: usize, n: usize) -> Ended
+pub fn drive(
+    s: &mut [u8],
+    limit: usize,
+    base: usize,
+    code: &[u8],
+    top: u16,
+    made: usize,
+    n: usize,
+) -> Ended
     requires { ⌜ Space limit base (now s) ⌝ }
     requires { ⌜ length (now code) ≤ codeBound ⌝ }
     ensures { λ r. ⌜ Drove limit base (now (code .entry)) n top made (now (s .entry)) (now (s .exit)) r ⌝ }

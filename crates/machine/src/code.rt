@@ -1,8 +1,8 @@
 // The code's bytes: operations, positions in the code, jumps.
+use crate::Op;
 use book::ConNo;
 use book::FunNo;
 use store::Head;
-use crate::Op;
 ghost use mathlib.Core.Path.{_≡_};
 ghost use Prim.Native.Nat.{ℕ, _+_, _*_, _<_, _≤_};
 ghost use lib.ListN.{length, getD, drop};

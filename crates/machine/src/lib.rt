@@ -1,18 +1,17 @@
 // The compiled machine on the node store: instructions one by one, the code of a call, and of each call that is walked instead.
-// Here: the registers and the answers. code: bytes and operations; tables: arities, starts and arms; ops: the instructions;
+// Here: the registers and the answers. code: bytes and operations; tables: arities, starts and arms; ops, makes: the instructions;
 // steps: code until it ends; calls: calls that are walked instead, the settled stack.
 // specs/View says which state of the machine's definition memory and registers are.
+pub mod calls;
 pub mod code;
-pub mod tables;
+pub mod makes;
 pub mod ops;
 pub mod steps;
-pub mod calls;
+pub mod tables;
 
 use book::FunNo;
-use store::NodeNo;
 use store::Head;
-ghost use mathlib.Core.Path.{_≡_};
-ghost use Prim.Native.Nat.{ℕ, _+_, _*_, _<_, _≤_};
+use store::NodeNo;
 
 // The current register: nothing, or a node.
 pub enum Cur {

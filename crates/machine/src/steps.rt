@@ -1,11 +1,12 @@
 // Code until it ends: one operation, one step, at most n steps.
-use crate::Regs;
-use crate::Op;
-use crate::Stop;
-use crate::Next;
-use crate::Ran;
 use crate::Ended;
+use crate::Next;
+use crate::Op;
+use crate::Ran;
+use crate::Regs;
+use crate::Stop;
 use crate::code;
+use crate::makes;
 use crate::ops;
 ghost use mathlib.Core.Path.{_≡_};
 ghost use Prim.Native.Nat.{ℕ, _+_, _<_, _≤_};
@@ -15,7 +16,15 @@ ghost use Rattle.machine.specs.View.{opOf, stateOf};
 ghost use Rattle.machine.specs.Contract.{runOn, stepOn, Fine, Went, Came};
 
 // The operation at place `at`; `regs.pc` is behind it.
-pub fn run_op(s: &mut [u8], limit: usize, base: usize, code: &[u8], regs: Regs, op: Op, at: usize) -> Ran
+pub fn run_op(
+    s: &mut [u8],
+    limit: usize,
+    base: usize,
+    code: &[u8],
+    regs: Regs,
+    op: Op,
+    at: usize,
+) -> Ran
     requires { ⌜ Space limit base (now s) ⌝ }
     requires { ⌜ Fine regs ⌝ }
     requires { ⌜ (at ≤ codeBound) × (regs .pc ≤ codeBound + 16) ⌝ }
@@ -28,12 +37,12 @@ pub fn run_op(s: &mut [u8], limit: usize, base: usize, code: &[u8], regs: Regs, 
             regs: regs,
             next: Next::Ends(Stop::Broken),
         },
-        Op::Push => ops::push(s, limit, base, code, regs),
+        Op::Push => makes::push(s, limit, base, code, regs),
         Op::Pop => ops::pop(s, limit, base, code, regs),
-        Op::MakeAnon => ops::make_anon(s, limit, base, code, regs),
-        Op::StoreVar(v) => ops::store_var(s, limit, base, code, regs, v),
-        Op::MakeVar(v) => ops::make_var(s, limit, base, code, regs, v),
-        Op::MakeTerm(y) => ops::make_term(s, limit, base, code, regs, y),
+        Op::MakeAnon => makes::make_anon(s, limit, base, code, regs),
+        Op::StoreVar(v) => makes::store_var(s, limit, base, code, regs, v),
+        Op::MakeVar(v) => makes::make_var(s, limit, base, code, regs, v),
+        Op::MakeTerm(y) => makes::make_term(s, limit, base, code, regs, y),
         Op::Replace => ops::replace(s, limit, base, code, regs),
         Op::Narrow => ops::narrow(s, limit, base, code, regs),
         Op::Choice => ops::choice(s, limit, base, code, regs),
@@ -84,10 +93,7 @@ pub fn exec(s: &mut [u8], limit: usize, base: usize, code: &[u8], regs: Regs, n:
         let q = a.regs;
         r = q;
         if let Next::Ends(x) = next {
-            return Ended {
-                regs: r,
-                stop: x,
-            };
+            return Ended { regs: r, stop: x };
         }
         left -= 1;
     }

@@ -1,8 +1,8 @@
 // The program's tables in the rest of the memory: starts, arities, arms.
+use crate::Arm;
 use book::ConNo;
 use book::FunNo;
 use store::Head;
-use crate::Arm;
 ghost use mathlib.Core.Path.{_≡_};
 ghost use Prim.Native.Nat.{ℕ, _+_, _*_, _<_, _≤_};
 ghost use lib.ListN.{length, getD};

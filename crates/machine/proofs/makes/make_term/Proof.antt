@@ -1,8 +1,8 @@
-use Rattle.machine.proofs.Makes.{term-many, term-lost, term-full, term-is}
+use Rattle.machine.proofs.Making.{term-many, term-lost, term-full, term-is}
 use native.Mathlib.Omega.{arith}
 use borrow.Author.Needs.{needs}
-use Rattle.machine.proofs.ops.make_term.Statement.{statement}
-use Rattle.machine.proofs.ops.make_term.Tie as tie
+use Rattle.machine.proofs.makes.make_term.Statement.{statement}
+use Rattle.machine.proofs.makes.make_term.Tie as tie
 
 arity-requires : tie.Need-arity-requires
 arity-requires c κs = search needs

@@ -1,8 +1,8 @@
-use Rattle.machine.proofs.Makes.{anon-full, anon-is}
+use Rattle.machine.proofs.Making.{anon-full, anon-is}
 use native.Mathlib.Omega.{arith}
 use borrow.Author.Needs.{needs}
-use Rattle.machine.proofs.ops.make_anon.Statement.{statement}
-use Rattle.machine.proofs.ops.make_anon.Tie as tie
+use Rattle.machine.proofs.makes.make_anon.Statement.{statement}
+use Rattle.machine.proofs.makes.make_anon.Tie as tie
 
 returns : tie.Need-returns
 returns c = anon-full _ _ _ _ _ (c .before .before .before .before .pre .1) (c .if1 .taken)

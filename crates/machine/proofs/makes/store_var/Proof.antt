@@ -1,8 +1,8 @@
-use Rattle.machine.proofs.Makes.{store-lost, store-full, store-is, set-new, set-there}
+use Rattle.machine.proofs.Making.{store-lost, store-full, store-is, set-new, set-there}
 use native.Mathlib.Omega.{arith}
 use borrow.Author.Needs.{needs}
-use Rattle.machine.proofs.ops.store_var.Statement.{statement}
-use Rattle.machine.proofs.ops.store_var.Tie as tie
+use Rattle.machine.proofs.makes.store_var.Statement.{statement}
+use Rattle.machine.proofs.makes.store_var.Tie as tie
 
 returns : tie.Need-returns
 returns c = store-lost _ _ _ _ _ (c .before .before .before .before .pre .1) _ (omega arith) (c .before .before .before .before .pre .0)

@@ -5,8 +5,8 @@ use mathlib.Core.Path.{_≡_, refl, ap, _∙_}
 use Prim.Native.Nat.{_≤_, _-_}
 use borrow.Author.Needs.{needs}
 use native.Mathlib.Omega.{arith}
-use Rattle.machine.proofs.ops.top_terms.Statement.{statement}
-use Rattle.machine.proofs.ops.top_terms.Tie as tie
+use Rattle.machine.proofs.makes.top_terms.Statement.{statement}
+use Rattle.machine.proofs.makes.top_terms.Tie as tie
 
 abbrev Inv-loop : tie.InvT-loop
 Inv-loop s limit base terms count args₀ j₀ args j = (take j args ≡ take j (preTerms limit base s terms)) × (j ≤ count) × (length args ≡ 8)

@@ -1,8 +1,8 @@
-use Rattle.machine.proofs.Makes.{push-full, push-goes}
+use Rattle.machine.proofs.Making.{push-full, push-goes}
 use native.Mathlib.Omega.{arith}
 use borrow.Author.Needs.{needs}
-use Rattle.machine.proofs.ops.push_term.Statement.{statement}
-use Rattle.machine.proofs.ops.push_term.Tie as tie
+use Rattle.machine.proofs.makes.push_term.Statement.{statement}
+use Rattle.machine.proofs.makes.push_term.Tie as tie
 
 returns : tie.Need-returns
 returns c = push-full _ _ _ _ _ (c .before .before .before .before .pre .1) _ (c .if1 .taken)

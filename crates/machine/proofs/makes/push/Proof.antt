@@ -1,7 +1,7 @@
-use Rattle.machine.proofs.Makes.{push-lost, push-is}
+use Rattle.machine.proofs.Making.{push-lost, push-is}
 use borrow.Author.Needs.{needs}
-use Rattle.machine.proofs.ops.push.Statement.{statement}
-use Rattle.machine.proofs.ops.push.Tie as tie
+use Rattle.machine.proofs.makes.push.Statement.{statement}
+use Rattle.machine.proofs.makes.push.Tie as tie
 
 enum-known-cur : tie.Need-enum-known-cur
 enum-known-cur c = search needs

@@ -1,8 +1,8 @@
-use Rattle.machine.proofs.Makes.{var-lost, var-is}
+use Rattle.machine.proofs.Making.{var-lost, var-is}
 use native.Mathlib.Omega.{arith}
 use borrow.Author.Needs.{needs}
-use Rattle.machine.proofs.ops.make_var.Statement.{statement}
-use Rattle.machine.proofs.ops.make_var.Tie as tie
+use Rattle.machine.proofs.makes.make_var.Statement.{statement}
+use Rattle.machine.proofs.makes.make_var.Tie as tie
 
 returns : tie.Need-returns
 returns c = var-lost _ _ _ _ _ (c .before .before .before .before .pre .1) _ (c .if1 .taken)

@@ -1,0 +1,4 @@
+pub mod Steps
+pub mod Vars
+pub mod Blocks
+pub mod Whole
