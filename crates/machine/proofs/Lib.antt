@@ -1,0 +1,10 @@
+pub mod Codes
+pub mod Walking
+pub mod Registers
+pub mod Frames
+pub mod Runs
+pub mod Making
+pub mod Execs
+pub mod Stacks
+pub mod Driving
+pub mod Rooms

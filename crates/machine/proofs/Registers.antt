@@ -1,0 +1,73 @@
+-- Laws of the registers in the memory: the pre-term stack, the free variables, the stack of links.
+-- Assumes nothing.
+use Prim.Native.Nat.{ℕ, zero, suc, _+_, _-_, _*_, _≤_, _<_}
+use mathlib.Core.Path.{_≡_, refl, ap, sym, _∙_, subst}
+use mathlib.Core.Option.{none, some}
+use mathlib.Core.List.{List, [], _∷_, _++_, List·Memᴰ, List·Memᴰ·head, List·Memᴰ·tail}
+use lib.ListN.{length, getD, getElem?, take, drop, set, length-take, drop-of-length-le}
+use lib.Seq.{getD-drop, take-suc, getD-set-same, getD-set-other, take-take, take-suc-set, take-set-lt, set-split, length-take-le, getD-take}
+use native.Mathlib.Omega.{arith}
+use native.Mathlib.Numerals.{add-one, sub-one}
+use Rattle.store.specs.Regions.{linksOf, restOf}
+use Rattle.engine.specs.Machine.{put}
+use Rattle.machine.specs.View.{chain, termsOf, stackOf, preTerms}
+use Rattle.machine.specs.Tables.{termsAt}
+
+pub length-terms : (k : ℕ) (w : List ℕ) → length (termsOf k w) ≡ k
+unfolding termsOf
+length-terms zero w = refl
+length-terms (suc k) w = ap suc (length-terms k w)
+
+pub terms-far : (k j v : ℕ) (w : List ℕ) → k ≤ j → termsOf k (set w j v) ≡ termsOf k w
+unfolding termsOf
+terms-far zero j v w h = refl
+terms-far (suc k) j v w h = λ i. getD-set-other w j k v 0 (omega arith) i ∷ terms-far k j v w (omega arith) i
+
+pub terms-push : (k v : ℕ) (w : List ℕ) → k < length w → termsOf (k + 1) (set w k v) ≡ v ∷ termsOf k w
+unfolding termsOf
+terms-push k v w h = rw add-one (λ i. getD-set-same w k v 0 h i ∷ terms-far k k v w (omega arith) i)
+
+pub terms-drop : (a k : ℕ) (w : List ℕ) → a ≤ k → drop a (termsOf k w) ≡ termsOf (k - a) w
+unfolding termsOf
+terms-drop zero k w h = let e : k - 0 ≡ k = omega arith in rw e
+terms-drop (suc a) zero w h = absurd (omega arith)
+terms-drop (suc a) (suc k) w h = let e : suc k - suc a ≡ k - a = omega arith in terms-drop a k w (omega arith) ∙ rw e
+
+pub terms-get : (j k : ℕ) (w : List ℕ) → j < k → getD (termsOf k w) j 0 ≡ getD w (k - 1 - j) 0
+unfolding termsOf
+terms-get j zero w h = absurd (omega arith)
+terms-get zero (suc k) w h = let e : suc k - 1 - 0 ≡ k = omega arith in rw e
+terms-get (suc j) (suc k) w h = let e : suc k - 1 - suc j ≡ k - 1 - j = omega arith in terms-get j k w (omega arith) ∙ rw e
+
+pub terms-first : (k : ℕ) (w : List ℕ) → 0 < k → getElem? (termsOf k w) 0 ≡ some (getD w (k - 1) 0)
+unfolding termsOf
+terms-first zero w h = absurd (omega arith)
+terms-first (suc k) w h = let e : suc k - 1 ≡ k = omega arith in rw e
+
+-- one more argument read
+pub terms-next : (L base terms j v : ℕ) (s xs : List ℕ) → j < terms → j < length xs → take j xs ≡ take j (preTerms L base s terms) → v ≡ getD (restOf L s) (base + termsAt + (terms - 1 - j)) 0 → take (j + 1) (set xs j v) ≡ take (j + 1) (preTerms L base s terms)
+unfolding preTerms
+terms-next L base terms j v s xs h l e ev =
+    let w : List ℕ = drop (base + termsAt) (restOf L s) in
+    let there : v ≡ getD (termsOf terms (drop (base + termsAt) (restOf L s))) j 0 = ev ∙ sym (getD-drop (base + termsAt) (restOf L s) (terms - 1 - j) 0) ∙ sym (terms-get j terms (drop (base + termsAt) (restOf L s)) h) in
+    rw (add-one, take-suc-set xs j v l, take-suc (termsOf terms (drop (base + termsAt) (restOf L s))) j 0 (rw length-terms h), e, ← there)
+
+-- register v set: the last one and one more, or one of those that are there
+pub put-next : (v k : ℕ) (w : List ℕ) → v < length w → take (v + 1) (set w v k) ≡ put (take v w) v k
+unfolding put
+put-next v k w h =
+    rw (add-one, take-suc-set w v k h, take-take v v w (omega arith), drop-of-length-le (take v w) {i = suc v} (rw length-take (omega arith)))
+
+pub put-there : (v n k : ℕ) (w : List ℕ) → v < n → n ≤ length w → take n (set w v k) ≡ put (take n w) v k
+unfolding put
+put-there v n k w h l = rw (take-set-lt n w v k h) (set-split (take n w) v k (rw (length-take-le n w l) h))
+
+-- the top of the stack
+pub top-none : (L : ℕ) (s : List ℕ) (t : ℕ) → t ≡ 0 → getElem? (stackOf L s t) 0 ≡ none
+unfolding stackOf chain
+top-none L s t e = rw e
+
+pub top-some : (L : ℕ) (s : List ℕ) (t : ℕ) → 0 < t → getElem? (stackOf L s t) 0 ≡ some (t - 1)
+unfolding stackOf chain
+top-some L s zero h = absurd (omega arith)
+top-some L s (suc k) h = let e : suc k - 1 ≡ k = omega arith in rw e

@@ -1,0 +1,4 @@
+pub mod Tables
+pub mod View
+pub mod Contract
+pub mod Drive
