@@ -1,22 +1,20 @@
 -- Laws of the code's bytes: operations, symbols, jumps.
 -- Assumes nothing.
-use Prim.Native.Nat.{ℕ, zero, suc, _+_, _-_, _*_, _≤_, _<_}
-use mathlib.Core.Path.{_≡_, refl, ap, sym, _∙_, subst}
+use Prim.Native.Nat.{ℕ, suc, _+_, _-_, _*_, _≤_, _<_}
+use mathlib.Core.Path.{_≡_, refl, ap, sym, _∙_}
 use mathlib.Core.Logic.{_⊎_, inl, inr}
 use mathlib.Core.Bool.{Bool, true, false}
-use mathlib.Core.List.{List, [], _∷_}
+use mathlib.Core.List.{List, _∷_}
 use lib.ListN.{length, getD, take, drop, length-take, List·getD-eq-default}
 use lib.Seq.{getD-drop, drop-cons, drop-drop, take-take, take-all}
-use lib.Dec.{leb, eqb}
+use lib.Dec.{leb}
 use borrow.Author.Tests.{ne-eqb, leb-true, leb-false}
 use native.Mathlib.Omega.{arith}
 use native.Mathlib.Nat.{add-zero, add-assoc}
 use native.Mathlib.Numerals.{add-one}
-use Rattle.book.specs.Syntax.{Symbol, con, fun}
-use Rattle.engine.specs.Code.{Instr, load, branch, go, storeVar, makeVar, makeTerm, wrong, decode, bodies, symbol, fromFour, width}
+use Rattle.book.specs.Syntax.{con, fun}
+use Rattle.engine.specs.Code.{Instr, branch, go, storeVar, makeVar, makeTerm, wrong, decode, bodies, symbol, fromFour, width}
 use Rattle.store.specs.Rows.{symbolOf}
-use Rattle.book.specs.declared.ConNo.{ConNo}
-use Rattle.book.specs.declared.FunNo.{FunNo}
 use Rattle.store.specs.declared.Head.{Head}
 use Rattle.store.specs.declared.Head.the-variants.{Makes, Calls}
 use Rattle.machine.specs.View.{opOf, widthOf, SymbolAt}
@@ -158,7 +156,6 @@ pub jump-is : (code : List ℕ) (pc j a b c d : ℕ) → a ≡ getD code (pc + (
     → a + 256 * (b + 256 * (c + 256 * d)) ≡ fromFour (drop (5 * j + 1) (drop pc code))
 unfolding fromFour
 jump-is code pc j a b c d ea eb ec ed =
-    let at : ℕ = pc + (5 * j + 1) in
     let w : drop (5 * j + 1) (drop pc code) ≡ drop (pc + (5 * j + 1)) code = drop-drop (5 * j + 1) pc code in
     let f0 : getD (drop (pc + (5 * j + 1)) code) 0 0 ≡ a = first-behind code (pc + (5 * j + 1)) ∙ sym ea in
     let f1 : getD (drop (pc + (5 * j + 1)) code) 1 0 ≡ b = behind code (pc + (5 * j + 1)) 1 ∙ sym eb in

@@ -9,7 +9,7 @@ use lib.Seq.{getD-set-other}
 use native.Mathlib.Omega.{arith}
 use Rattle.mem.specs.Words.{words}
 use Rattle.book.specs.Syntax.{con, fun}
-use Rattle.heap.specs.Graph.{Graph, Node, cell, var, fwd, node, follow, look, args}
+use Rattle.heap.specs.Graph.{Node, cell, var, fwd, node, follow, look, args}
 use Rattle.heap.specs.Place.{Distinct}
 use Rattle.heap.specs.Store.{Store, take1}
 use Rattle.store.specs.Rows.{seen}
@@ -22,7 +22,7 @@ use Rattle.store.specs.declared.NodeNo.{NodeNo}
 use Rattle.store.specs.declared.Seen.{Seen}
 use Rattle.machine.specs.Tables.{Has, varsAt, termsEnd}
 use Rattle.machine.specs.View.{stackOf, preTerms, termsOf, freeVars, curOf, stateOf, stopOf, calledOf, demandOf}
-use Rattle.machine.specs.Contract.{Fine, Kept, Low, Came, ByTables, execOn}
+use Rattle.machine.specs.Contract.{Kept, Low, Came, ByTables, execOn}
 use Rattle.machine.specs.Drive.{driveOn, topStop, LowTop, Fresh, Topped, Linked, Drove}
 use Rattle.machine.proofs.Frames.{kept-same, kept-then, has-kept}
 use Rattle.machine.proofs.Stacks.{stack-cons, stack-nil, stack-link}
@@ -96,7 +96,6 @@ module _ (L base : ℕ) (code : List ℕ) (t k : ℕ) (s : List ℕ) where
         let call : look (graphOf L s) (t - 1) ≡ cell (fun (f .0)) (args (look (graphOf L s) (t - 1))) = a-call (look (graphOf L s) (t - 1)) f (seen-top ∙ ef) in
         record {
           is = λ p h u l.
-              let start : m.State Store = m.st (drop (getD (p .starts) (f .0) 0) (p .code)) (stackOf L s t) none [] [] (storeOf L k s) in
               let same : stateOf L base code (emptied pc t k) s ≡ m.st (drop (getD (p .starts) (f .0) 0) (p .code)) (stackOf L s t) none [] [] (storeOf L k s) = rw (b p h, ← u) in
               let room : Low (length (p .code)) p (m.st (drop (getD (p .starts) (f .0) 0) (p .code)) (stackOf L s t) none [] [] (storeOf L k s)) = l (f .0) _ (t - 1) _ (stack-cons L s t lt) call in
               C .is p h u (subst (λ (x : m.State Store). Low (length code) p x) (sym same) (subst (λ (w : List ℕ). Low (length w) p (m.st (drop (getD (p .starts) (f .0) 0) (p .code)) (stackOf L s t) none [] [] (storeOf L k s))) u room))

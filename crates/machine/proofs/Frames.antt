@@ -1,19 +1,17 @@
 -- Laws of what stays: nothing changed, a node made, a register written, one behind the other; the tables stay.
 -- Assumes nothing.
-use Prim.Native.Nat.{ℕ, zero, suc, _+_, _-_, _*_, _≤_, _<_}
+use Prim.Native.Nat.{ℕ, _+_, _-_, _*_, _≤_, _<_}
 use mathlib.Core.Path.{_≡_, refl, ap, sym, _∙_, subst}
-use mathlib.Core.List.{List, [], _∷_}
-use lib.ListN.{length, getD, getElem?, take, drop, set}
+use mathlib.Core.List.{List}
+use lib.ListN.{getD, getElem?, take, drop}
 use lib.Seq.{take-take, take-set-le, drop-set-lt, getD-take}
 use native.Mathlib.Omega.{arith}
-use Rattle.mem.specs.Words.{words}
 use Rattle.heap.specs.Graph.{Node}
-use Rattle.store.specs.Regions.{graphOf, linksOf, restOf, Memory, Did, setNode, setRest}
+use Rattle.store.specs.Regions.{graphOf, restOf, Memory, Did, setNode, setRest}
 use Rattle.engine.specs.Compile.{Program}
 use Rattle.engine.specs.Machine as m
 use Rattle.heap.specs.Store.{Store}
 use Rattle.machine.specs.Tables.{Has, Home, varsAt, termsEnd}
-use Rattle.machine.specs.View.{ranOf}
 use Rattle.machine.specs.Contract.{Fine, Kept, Frame, Roomy, Went}
 use Rattle.machine.specs.declared.Regs.{Regs}
 use Rattle.machine.specs.declared.Ran.{Ran}

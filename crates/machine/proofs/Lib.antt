@@ -8,3 +8,4 @@ pub mod Execs
 pub mod Stacks
 pub mod Driving
 pub mod Rooms
+pub mod Tabled

@@ -1,41 +1,32 @@
 -- Laws of the instructions that write: a term pushed, a node made, a register set.
 -- Assumes nothing.
-use Prim.Native.Nat.{ℕ, zero, suc, _+_, _-_, _*_, _≤_, _<_}
+use Prim.Native.Nat.{ℕ, _+_, _-_, _*_, _≤_, _<_}
 use mathlib.Core.Path.{_≡_, refl, ap, sym, _∙_, subst}
-use mathlib.Core.Bool.{Bool, true, false}
-use mathlib.Core.Option.{Option, none, some}
-use mathlib.Core.List.{List, [], _∷_}
+use mathlib.Core.Option.{some}
+use mathlib.Core.List.{List, _∷_}
 use lib.ListN.{length, getD, getElem?, take, drop, set, length-drop, length-take}
 use lib.Seq.{drop-set-add, drop-set-lt, take-set-le, getD-take, getD-drop, length-take-le}
-use lib.Dec.{leb}
 use borrow.Author.Tests.{le-leb, lt-leb}
 use native.Mathlib.Omega.{arith}
 use Rattle.mem.specs.Words.{words}
-use Rattle.book.specs.Syntax.{Symbol, con, fun}
+use Rattle.book.specs.Syntax.{Symbol}
 use Rattle.heap.specs.Graph.{Node, cell, var}
-use Rattle.heap.specs.Store.{Store, take1}
-use Rattle.store.specs.Rows.{symbolOf}
 use Rattle.store.specs.Regions.{graphOf, linksOf, restOf, storeOf, Memory, Did, setNode, setRest}
 use Rattle.store.proofs.Writes.{make-is, make-none, length-rest}
 use Rattle.engine.specs.Code as c
-use Rattle.engine.specs.Compile.{Program}
 use Rattle.engine.specs.Machine as m
 use Rattle.store.specs.declared.NodeNo.{NodeNo}
-use Rattle.store.specs.declared.Head.{Head}
-use Rattle.machine.specs.Tables.{Space, Has, varsAt, termsAt, termsEnd, termBound}
+use Rattle.machine.specs.Tables.{Space, varsAt, termsAt, termBound}
 use Rattle.machine.specs.View.{stackOf, preTerms, freeVars, curOf, stateOf, stopOf, ranOf}
-use Rattle.machine.specs.Contract.{runOn, pushed, Fine, Kept, Frame, Roomy, Went, ByTables}
+use Rattle.machine.specs.Contract.{runOn, pushed, Fine, Frame, Roomy, Went, ByTables}
 use Rattle.machine.proofs.Walking.{elem-some, elem-none}
-use Rattle.machine.proofs.Registers.{length-terms, terms-far, terms-push, terms-drop, put-next, put-there}
-use Rattle.machine.proofs.Frames.{frame-regs, frame-same, frame-then, kept-node, kept-rest, kept-then, went-as, went-from}
+use Rattle.machine.proofs.Registers.{length-terms, terms-push, terms-drop, put-next, put-there}
+use Rattle.machine.proofs.Frames.{frame-same, kept-node, kept-rest, kept-then, went-as, went-from}
 use Rattle.machine.proofs.Runs.{ended, state-is}
 use Rattle.machine.specs.declared.Regs.{Regs}
 use Rattle.machine.specs.declared.Ran.{Ran}
-use Rattle.machine.specs.declared.Cur.{Cur}
 use Rattle.machine.specs.declared.Cur.the-variants.{Empty, Holds}
-use Rattle.machine.specs.declared.Stop.{Stop}
 use Rattle.machine.specs.declared.Stop.the-variants.{Broken, Full}
-use Rattle.machine.specs.declared.Next.{Next}
 use Rattle.machine.specs.declared.Next.the-variants.{Goes, Ends}
 
 length-pre : (L base : ℕ) (s : List ℕ) (k : ℕ) → length (preTerms L base s k) ≡ k
@@ -85,7 +76,6 @@ module _ (L base : ℕ) (code : List ℕ) (r : Regs) (s : List ℕ) (fine : Fine
   pub var-is : {s′ : List ℕ} {a : Ran} (v k : ℕ) → Space L base s → v < r .vars → k ≡ getD (restOf L s) (base + varsAt + v) 0 → Went L base code r s s′ a (λ p. pushed k (stateOf L base code r s)) → Went L base code r s s′ a (λ p. runOn p (c.makeVar v) (stateOf L base code r s))
   unfolding stateOf pushed freeVars m.run m.need
   var-is v k sp h e w =
-      let w0 : List ℕ = drop (base + varsAt) (restOf L s) in
       let long : length (take (r .vars) (drop (base + varsAt) (restOf L s))) ≡ r .vars = length-take-le (r .vars) (drop (base + varsAt) (restOf L s)) (omega (arith, length-part L base varsAt s (sp .2) (omega arith))) in
       let found : getElem? (freeVars L base s (r .vars)) v ≡ some k =
       elem-some (take (r .vars) (drop (base + varsAt) (restOf L s))) v (rw long h)

@@ -2,7 +2,7 @@
 -- Here, in order: room for code that fits (crate terms); for the top's code; along any invariant that a demanded call keeps.
 -- Assumes nothing.
 use Prim.Native.Nat.{ℕ, zero, suc, _≤_}
-use mathlib.Core.Path.{_≡_, refl, ap, sym, _∙_, subst}
+use mathlib.Core.Path.{_≡_, refl}
 use mathlib.Core.List.{List, [], _∷_}
 use lib.ListN.{length, getD, drop}
 use native.Mathlib.Omega.{arith}

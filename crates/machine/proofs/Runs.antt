@@ -1,47 +1,38 @@
 -- Laws of the instructions: what each function's answer is, by what it read and wrote.
 -- Assumes nothing.
-use Prim.Native.Nat.{ℕ, zero, suc, _+_, _-_, _*_, _≤_, _<_}
-use mathlib.Core.Path.{_≡_, refl, ap, sym, _∙_, subst}
-use mathlib.Core.Bool.{Bool, true, false}
+use Prim.Native.Nat.{ℕ, suc, _+_, _-_, _*_, _<_}
+use mathlib.Core.Path.{_≡_, refl, ap, sym, _∙_}
 use mathlib.Core.Option.{Option, none, some}
-use mathlib.Core.List.{List, [], _∷_, reverse}
-use lib.ListN.{length, getD, getElem?, take, drop, set, length-drop, length-take}
-use lib.Seq.{drop-set-add, drop-set-lt, take-set-le, getD-take, getD-drop, length-take-le}
-use lib.Dec.{leb}
-use borrow.Author.Tests.{le-leb, lt-leb}
+use mathlib.Core.List.{List}
+use lib.ListN.{getD, getElem?, drop}
+use lib.Seq.{getD-drop}
 use native.Mathlib.Omega.{arith}
-use native.Mathlib.Nat.{add-assoc}
-use Rattle.mem.specs.Words.{words}
-use Rattle.book.specs.Syntax.{Symbol, con, fun}
-use Rattle.heap.specs.Graph.{Graph, Node, cell, var, fwd, node, follow, look, args}
+use Rattle.heap.specs.Graph.{Node, node, follow, look}
 use Rattle.heap.specs.Store.{Store, take1}
-use Rattle.store.specs.Rows.{seen, symbolOf}
-use Rattle.store.specs.Regions.{graphOf, linksOf, restOf, storeOf, Memory, Did, setNode, setRest}
+use Rattle.store.specs.Rows.{seen}
+use Rattle.store.specs.Regions.{graphOf, restOf, storeOf}
 use Rattle.store.proofs.Laws.{seen-var, seen-con, seen-call, seen-fwd}
-use Rattle.store.proofs.Writes.{make-is, make-none, length-rest}
 use Rattle.engine.specs.Code as c
 use Rattle.engine.specs.Compile.{Program}
 use Rattle.engine.specs.Machine as m
 use Rattle.book.specs.declared.ConNo.{ConNo}
 use Rattle.book.specs.declared.FunNo.{FunNo}
 use Rattle.store.specs.declared.NodeNo.{NodeNo}
-use Rattle.store.specs.declared.Head.{Head}
 use Rattle.store.specs.declared.Seen.{Seen}
 use Rattle.store.specs.declared.Seen.the-variants.{Var, Con, Call, Fwd}
-use Rattle.machine.specs.Tables.{Space, Has, varsAt, termsAt, termsEnd, termBound}
+use Rattle.machine.specs.Tables.{Has, termsAt}
 use Rattle.machine.specs.View.{stackOf, preTerms, freeVars, curOf, stateOf, stopOf, ranOf, armIs}
-use Rattle.machine.specs.Contract.{runOn, pushed, Fine, Kept, Frame, Roomy, Went, ByTables}
-use Rattle.machine.proofs.Walking.{elem-some, elem-none}
-use Rattle.machine.proofs.Registers.{length-terms, terms-far, terms-push, terms-drop, terms-get, terms-first, put-next, put-there, top-none, top-some}
-use Rattle.machine.proofs.Frames.{kept-same, frame-regs, frame-same, frame-then, kept-node, kept-rest}
+use Rattle.machine.specs.Contract.{runOn, Fine, Went, ByTables}
+use Rattle.machine.proofs.Walking.{elem-none}
+use Rattle.machine.proofs.Registers.{length-terms, terms-drop, terms-first, top-none, top-some}
+use Rattle.machine.proofs.Frames.{frame-regs, frame-same}
 use Rattle.machine.specs.declared.Regs.{Regs}
 use Rattle.machine.specs.declared.Cur.{Cur}
 use Rattle.machine.specs.declared.Cur.the-variants.{Empty, Holds}
 use Rattle.machine.specs.declared.Arm.{Arm}
 use Rattle.machine.specs.declared.Arm.the-variants.{None, Of}
 use Rattle.machine.specs.declared.Stop.{Stop}
-use Rattle.machine.specs.declared.Stop.the-variants.{Demand, Becomes, Parts, Fails, Misfits, Broken, Full}
-use Rattle.machine.specs.declared.Next.{Next}
+use Rattle.machine.specs.declared.Stop.the-variants.{Demand, Becomes, Parts, Fails, Misfits, Broken}
 use Rattle.machine.specs.declared.Next.the-variants.{Goes, Ends}
 
 -- a state by its parts

@@ -16,7 +16,6 @@ use Rattle.store.proofs.Writes.{length-links}
 use Rattle.engine.specs.Machine as m
 use Rattle.book.specs.declared.FunNo.{FunNo}
 use Rattle.store.specs.declared.Seen.{Seen}
-use Rattle.store.specs.declared.Seen.the-variants.{Var, Con, Call, Fwd}
 use Rattle.machine.specs.View.{chain, stackOf, calledOf}
 use Rattle.machine.specs.Drive.{Settled}
 use Rattle.machine.specs.declared.Called.{Called}

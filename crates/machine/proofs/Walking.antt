@@ -1,18 +1,15 @@
 -- Laws of reading: a node's argument, a position, the tables.
 -- Assumes nothing.
 use Prim.Native.Nat.{ℕ, zero, suc, _+_, _-_, _*_, _≤_, _<_}
-use mathlib.Core.Path.{_≡_, refl, ap, sym, _∙_, subst}
-use mathlib.Core.Bool.{Bool, true, false}
+use mathlib.Core.Path.{_≡_, refl, ap, sym, _∙_}
 use mathlib.Core.Option.{Option, none, some}
 use mathlib.Core.List.{List, [], _∷_}
-use lib.ListN.{length, getD, getElem?, take, drop, length-drop, drop-of-length-le, List·getD-eq-default}
+use lib.ListN.{length, getD, getElem?, take, drop, drop-of-length-le, List·getD-eq-default}
 use lib.Seq.{drop-cons, take-nil}
-use lib.Dec.{eqb}
 use borrow.Author.Tests.{ne-eqb, eq-eqb}
 use native.Mathlib.Omega.{arith}
 use native.Mathlib.Numerals.{add-one}
-use Rattle.book.specs.Syntax.{con, fun}
-use Rattle.heap.specs.Graph.{Graph, Node, cell, var, fwd, node, follow, look, args}
+use Rattle.heap.specs.Graph.{Graph, var, node, follow, look, args}
 use Rattle.store.specs.Rows.{seen, symbolOf}
 use Rattle.store.specs.Regions.{graphOf}
 use Rattle.store.proofs.Laws.{length-graph, countOf, count-seen}
@@ -22,15 +19,13 @@ use Rattle.book.specs.declared.ConNo.{ConNo}
 use Rattle.book.specs.declared.FunNo.{FunNo}
 use Rattle.store.specs.declared.NodeNo.{NodeNo}
 use Rattle.store.specs.declared.Seen.{Seen}
-use Rattle.store.specs.declared.Seen.the-variants.{Var, Con, Call, Fwd}
+use Rattle.store.specs.declared.Seen.the-variants.{Var}
 use Rattle.store.specs.declared.Head.{Head}
 use Rattle.store.specs.declared.Head.the-variants.{Makes, Calls}
-use Rattle.machine.specs.Tables.{Has, Home}
+use Rattle.machine.specs.Tables.{Home}
 use Rattle.machine.specs.View.{curOf, childOf, armIs}
 use Rattle.machine.specs.Contract.{ByTables}
-use Rattle.machine.specs.declared.Cur.{Cur}
 use Rattle.machine.specs.declared.Cur.the-variants.{Empty, Holds}
-use Rattle.machine.specs.declared.Arm.{Arm}
 use Rattle.machine.specs.declared.Arm.the-variants.{None, Of}
 
 pub elem-some : (l : List ℕ) (j : ℕ) → j < length l → getElem? l j ≡ some (getD l j 0)

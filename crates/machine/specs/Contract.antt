@@ -7,7 +7,6 @@ use mathlib.Core.List.{List, _∷_}
 use mathlib.Core.Path.{_≡_}
 use lib.ListN.{length, take, drop}
 use Rattle.mem.specs.Words.{words}
-use Rattle.heap.specs.Graph.{Node}
 use Rattle.heap.specs.Store.{Store, take1}
 use Rattle.store.specs.Regions.{graphOf, marksOf, linksOf, listOf, placesOf, framesOf, restOf}
 use Rattle.engine.specs.Code.{Instr}

@@ -1,5 +1,5 @@
 use Rattle.machine.proofs.Driving.{Driven, driven-start, driven-out, driven-ends, driven-past, driven-on}
-use mathlib.Core.Path.{_≡_, refl, ap, sym, _∙_}
+use mathlib.Core.Path.{_∙_}
 use borrow.Author.Needs.{needs}
 use native.Mathlib.Omega.{arith}
 use Rattle.machine.proofs.calls.drive.Statement.{statement}

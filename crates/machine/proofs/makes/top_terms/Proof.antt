@@ -1,9 +1,8 @@
 use Rattle.machine.proofs.Registers.{terms-next}
 use Rattle.machine.specs.View.{preTerms}
 use lib.ListN.{length, take, length-set}
-use mathlib.Core.Path.{_≡_, refl, ap, _∙_}
+use mathlib.Core.Path.{_≡_, refl}
 use Prim.Native.Nat.{_≤_, _-_}
-use borrow.Author.Needs.{needs}
 use native.Mathlib.Omega.{arith}
 use Rattle.machine.proofs.makes.top_terms.Statement.{statement}
 use Rattle.machine.proofs.makes.top_terms.Tie as tie

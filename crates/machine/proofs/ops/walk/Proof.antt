@@ -3,7 +3,7 @@ use Rattle.machine.specs.View.{curOf}
 use Rattle.store.specs.Regions.{graphOf}
 use Rattle.engine.specs.Machine.{at}
 use lib.ListN.{take, drop}
-use mathlib.Core.Path.{_≡_, refl, ap, sym, _∙_}
+use mathlib.Core.Path.{_≡_, ap, sym, _∙_}
 use Prim.Native.Nat.{_≤_, _+_, _-_}
 use borrow.Author.Needs.{needs}
 use native.Mathlib.Omega.{arith}

@@ -1,5 +1,5 @@
 use Rattle.machine.proofs.Execs.{Along, along-start, along-out, along-on, along-ends}
-use mathlib.Core.Path.{_≡_, refl, ap, sym, _∙_}
+use mathlib.Core.Path.{_∙_}
 use Prim.Native.Nat.{_-_}
 use borrow.Author.Needs.{needs}
 use native.Mathlib.Omega.{arith}
