@@ -2,16 +2,16 @@
 -- Here, in order: what stays; handles; rows.
 -- Not here: the ring (Rings).
 -- Assumes nothing.
-use Prim.Native.Nat.{ℕ, zero, suc, _+_, _-_, _*_, _≤_, _<_}
+use Prim.Native.Nat.{ℕ, _+_, _-_, _*_, _≤_, _<_}
 use native.Mathlib.Omega.{arith}
 use native.Mathlib.Numerals.{add-one}
-use mathlib.Core.Path.{_≡_, refl, ap, sym, _∙_, subst}
-use mathlib.Core.List.{List, [], _∷_, _++_}
+use mathlib.Core.Path.{_≡_, refl, ap, sym, _∙_}
+use mathlib.Core.List.{List, []}
 use lib.ListN.{length, getD, take, drop, set, length-drop}
 use lib.Seq.{take-suc, take-suc-set, drop-set-add, getD-set-same, getD-take, getD-drop}
-use Rattle.mem.specs.Words.{words, Only}
+use Rattle.mem.specs.Words.{words}
 use Rattle.mem.proofs.Laws.{wrote, only-wrote, only-then, take-kept, drop-kept, part-before, part-behind}
-use Rattle.store.specs.Regions.{restOf, linksOf, Memory, Did, setRest}
+use Rattle.store.specs.Regions.{restOf, Memory, Did, setRest}
 use Rattle.store.proofs.Writes.{length-rest}
 use Rattle.pool.specs.declared.Roots.{Roots}
 use Rattle.pool.specs.declared.Held.{Held}
@@ -102,7 +102,7 @@ module _ {L a b : ℕ} {s s′ : List ℕ} (o : RestOnly L a b s s′) where
   row-behind n i h = rw (roots-behind n (20 * i) h, word-behind (20 * i + 9) (omega arith), stack-stays)
 
 -- one handle more
-roots-step : (l l′ m : List ℕ) (j v : ℕ) → j < length l → j < length m → take j l ≡ take j m → l′ ≡ set l j v → v ≡ getD m j 0 → take (j + 1) l′ ≡ take (j + 1) m
+pub roots-step : (l l′ m : List ℕ) (j v : ℕ) → j < length l → j < length m → take j l ≡ take j m → l′ ≡ set l j v → v ≡ getD m j 0 → take (j + 1) l′ ≡ take (j + 1) m
 roots-step l l′ m j v h h′ e f g = rw (f, add-one j, take-suc-set l j v h, take-suc m j 0 h′, e, g)
 
 pub got-step : (L k j v : ℕ) (s l l′ : List ℕ) → length l ≡ 9 → j < 9 → 16 * L + (k + 9) ≤ length (words s) → take j l ≡ rootsAt L s j k → l′ ≡ set l j v → v ≡ getD (restOf L s) (k + j) 0 → take (j + 1) l′ ≡ rootsAt L s (j + 1) k

@@ -3,7 +3,7 @@
 -- Assumes nothing.
 use Prim.Native.Nat.{ℕ, zero, suc, _+_, _-_, _*_, _≤_, _<_}
 use native.Mathlib.Omega.{arith}
-use native.Mathlib.Nat.{add-zero, add-suc, suc-add}
+use native.Mathlib.Nat.{add-zero}
 use mathlib.Core.Path.{_≡_, refl, ap, sym, _∙_, subst}
 use mathlib.Core.Logic.{_≢_, _⊎_, inl, inr}
 use mathlib.Core.Bool.{Bool, true, false}
@@ -18,7 +18,6 @@ use Rattle.heap.proofs.Laws.Numbers.{upFrom-length}
 use Rattle.store.specs.Regions.{restOf, linksOf}
 use Rattle.engine.specs.Machine as m
 use Rattle.standing.specs.Part.{stacksOf}
-use Rattle.pool.specs.declared.Roots.{Roots}
 use Rattle.pool.specs.declared.Held.{Held}
 use Rattle.pool.specs.Ring.{Sized, chain, stackOf, rootsAt, heldIn, rowOf, placeOf, poolOf, SameLinks, RestOnly, RowGot, RowPut, Pushed}
 use Rattle.pool.proofs.Laws.{only-wider, row-before, row-behind}

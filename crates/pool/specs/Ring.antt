@@ -6,7 +6,7 @@
 -- Here, in order: room; stacks as chains of links; a computation's handles; rows; the ring; what stays; what the functions do.
 -- Not here: the tables (compiler), that these are the computations of the definition (standing).
 -- Assumes nothing.
-use Prim.Native.Nat.{ℕ, zero, suc, _+_, _-_, _*_, _≤_, _<_}
+use Prim.Native.Nat.{ℕ, zero, suc, _+_, _-_, _*_, _≤_}
 use mathlib.Core.List.{List, [], _∷_, _++_, map, List·Memᴰ}
 use mathlib.Core.Bool.{true, false}
 use mathlib.Core.Path.{_≡_}
