@@ -1,0 +1,14 @@
+pub mod Bytes
+pub mod Writing
+pub mod Loops
+pub mod Terms
+pub mod Rowing
+pub mod Rights
+pub mod Trees
+pub mod Splits
+pub mod Children
+pub mod Lengths
+pub mod Costs
+pub mod Funcs
+pub mod Filling
+pub mod Whole

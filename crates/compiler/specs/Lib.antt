@@ -1,0 +1,4 @@
+pub mod Records
+pub mod Rows
+pub mod Here
+pub mod Tables
