@@ -5,3 +5,4 @@ pub mod Driving
 pub mod Begins
 pub mod Finishing
 pub mod Turning
+pub mod Few
