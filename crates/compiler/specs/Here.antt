@@ -1,5 +1,7 @@
 -- What stands in the book at a place, with the room for its code: what the compiler's functions are called for, and what they do.
--- Here, in order: a term; RIGHTs; a tree and children; functions.
+-- Here, in order: a record; a surveyed book; a term; RIGHTs; a tree and children; types; functions.
+-- A function is called with such a record (its `requires`), and answers for every such record (its `ensures`).
+-- Not here: the tables and the compiler's answer (Tables).
 -- Assumes nothing.
 use Prim.Native.Nat.{ℕ, suc, _+_, _*_, _≤_, _<_}
 use mathlib.Core.List.{List, [], _∷_, _++_, map}
@@ -17,12 +19,6 @@ use Rattle.engine.specs.Compile.{Positions, compile, ofRights, ofRule, ofTree, 
 use Rattle.compiler.specs.Records.{typesRecs, Rcd, aType, aCons, aFunc, aSplit, aRule, aRight, aSymbol, aSlot, aFresh, aNone, bytesOf, cost, bytes, termRecs, rightsRecs, treeRecs, treesRecs}
 use Rattle.compiler.specs.Rows.{Rows, Lore, row, loadBody}
 use Rattle.compiler.specs.declared.Ends.{Ends}
-
--- an accepted book
-pub record BookIs (s : List ℕ) : Type 0 where
-  pub book : Book
-  pub end : ℕ
-  pub is : readBook s ≡ got book end
 
 -- a record of a type that exists
 abbrev pub FineRcd : List (List ℕ) → Rcd → Type 0

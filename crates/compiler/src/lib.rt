@@ -1,4 +1,6 @@
-// The compiler: from an accepted book to document 01's code records.
+// The compiler: from an accepted book to document 01's code records, and the machine's tables.
+// Here, in order: code records written; terms, walked backwards; RIGHTs and RULEs; rows of positions; trees; lengths; functions; tables; the whole.
+// Not here: reading (crate book), the definition of the code (engine's Compile).
 ghost use mathlib.Core.Path.{_≡_};
 ghost use mathlib.Core.List.{[], _∷_, _++_};
 ghost use Prim.Native.Nat.{ℕ, _+_, _*_, _<_, _≤_};
@@ -12,7 +14,7 @@ ghost use Rattle.engine.specs.Compile.{compile};
 ghost use Rattle.compiler.specs.Records.{armCost, cost};
 ghost use Rattle.compiler.specs.Rows.{row, loadBody, argsAt, numCode, back, varsCode, armCode, Emits, Keeps, Stepped, Grown, Fronts, splitAt, armAt, costAt, widthAt};
 ghost use Rattle.compiler.specs.Tables.{ConsKnown, BookDone, FunsNoted, ConsNoted, frontAt, surveyIs, BookKnown, DoesFit, compiledIs};
-ghost use Rattle.compiler.specs.Here.{BookIs, TypesKnown, TypesNoted, Started, FuncsHere, FuncsDone, RcdHere, Surveyed, TermHere, RightsHere, RightsDone, TreeHere, TreeDone, TreesHere, TreesDone};
+ghost use Rattle.compiler.specs.Here.{TypesKnown, TypesNoted, Started, FuncsHere, FuncsDone, RcdHere, Surveyed, TermHere, RightsHere, RightsDone, TreeHere, TreeDone, TreesHere, TreesDone};
 
 // The place in the book after what was compiled, and the place in the code after what was written.
 pub struct Ends {
