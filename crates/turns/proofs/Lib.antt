@@ -5,4 +5,5 @@ pub mod Driving
 pub mod Begins
 pub mod Finishing
 pub mod Turning
+pub mod Silent
 pub mod Few

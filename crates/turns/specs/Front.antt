@@ -82,3 +82,4 @@ pub record TurnTaken (L base : ℕ) (code : List ℕ) (made : ℕ) (held : Held)
   pub is : (F : Front L base code made held s) → tookOf L base held s s′ r (r .what) ≡ storeTurn L (compile (F .standing .book)) (storeOf L made s) (heldIn L s held)
   pub stays : (F : Front L base code made held s) → Stays L base made (Ours (F .standing .stands .world)) s s′
   pub more : (made ≤ r .made) × (r .made ≤ L)
+  pub still : r .what ≡ Wrote → graphOf L s′ ≡ graphOf L s

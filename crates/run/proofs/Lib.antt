@@ -1,0 +1,11 @@
+pub mod Only
+pub mod Ranges
+pub mod Arming
+pub mod Few
+pub mod Fronts
+pub mod Tabled
+pub mod Nexts
+pub mod Values
+pub mod Asks
+pub mod Stepping
+pub mod Looping

@@ -1,0 +1,94 @@
+-- A run between its turns, as the code has it; one step; and the run from a state on.
+-- Here, in order: the state as a moment of the run on the store; numbers in their bounds; what a state stands for; what a step gives; what a run from a state gives.
+-- Not here: the moments and their steps (engine, Run; standing, Shared), and when they stand for one another (standing, Moments).
+-- Assumes nothing.
+use Prim.Native.Nat.{ℕ, suc, _+_, _*_, _≤_, _<_}
+use mathlib.Core.Path.{_≡_}
+use mathlib.Core.List.{List}
+use lib.ListN.{length, take, drop}
+use Rattle.book.specs.Syntax.{Book}
+use Rattle.book.specs.Accepted as A
+use Rattle.book.specs.Answers.{Counts, counts}
+use Rattle.store.specs.Regions.{AllRoom, restOf, storeOf}
+use Rattle.engine.specs.Compile.{compile}
+use Rattle.engine.specs.Machine as m
+use Rattle.engine.specs.Run as e
+use Rattle.agreement.proofs.Calls.{FineBook}
+use Rattle.standing.specs.Shared.{StoreMoment, storeMoment, StoreNext, storeEnds, storeNext}
+use Rattle.standing.specs.Moments.{StandsFor, StandsNext}
+use Rattle.seek.specs.Walkable.{Clear}
+use Rattle.copier.specs.Listed.{Clean}
+use Rattle.machine.specs.Tables.{Has}
+use Rattle.pool.specs.Ring.{poolOf}
+use Rattle.run.specs.declared.Limits.{Limits}
+use Rattle.run.specs.declared.State.{State}
+use Rattle.run.specs.declared.Stepped.{Stepped}
+use Rattle.run.specs.declared.Stepped.the-variants.{Ended, On}
+use Rattle.run.specs.declared.Done.{Done}
+use Rattle.run.specs.Given.{answerIs}
+
+-- the counts of a state
+unfoldable pub countsIn : State → Counts
+countsIn st = counts (st .turns) (st .made) (st .begun) (st .split) (st .values) (st .failed) (st .misfits)
+
+-- A state with its work and results memory is a moment of the run on the store: the nodes made and the free ones, the computations in the pool's rows from the front's on,
+-- each with n handles, the counts, and the results written.
+unfoldable pub momentOf : e.Limits → ℕ → State → List ℕ → List ℕ → StoreMoment
+momentOf l n st s results = storeMoment (storeOf (l .nodes) (st .made) s) (poolOf (l .nodes) (l .pool) n (st .head) (st .waiting) s) (countsIn st) (take (st .written) results)
+
+-- what comes of a step: the run ends with an answer, or the next moment
+unfoldable pub nextOf : e.Limits → ℕ → List ℕ → List ℕ → Stepped → StoreNext
+nextOf l n s results (Ended a) = storeEnds (answerIs a)
+nextOf l n s results (On st) = storeNext (momentOf l n st s results)
+
+-- limits in range, room in the memories, and the state's numbers in their bounds
+pub record Bounded (l : e.Limits) (n : ℕ) (st : State) (s results : List ℕ) : Type 0 where
+  pub nodes : l .nodes ≤ 16384
+  pub pool : l .pool ≤ 1024
+  pub budget : l .budget ≤ 1000000
+  pub most : l .results ≤ 65536
+  pub room : AllRoom (l .nodes) (l .pool) s
+  pub lent : l .results ≤ length results
+  pub handles : (1 ≤ n) × (n ≤ 9)
+  pub head : st .head < l .pool
+  pub waiting : st .waiting ≤ l .pool
+  pub made : st .made ≤ l .nodes
+  pub turns : st .turns ≤ l .budget
+  pub begun : st .begun ≤ 1 + 32 * st .turns
+  pub others : (st .split ≤ st .turns) × (st .values ≤ st .turns) × (st .failed ≤ st .turns) × (st .misfits ≤ st .turns)
+  pub written : st .written ≤ l .results
+
+-- The state stands for a moment of the definition's run of an accepted book, whose code and tables are there; no node is marked and none has a place.
+pub record Runs (l : e.Limits) (n : ℕ) (code : List ℕ) (st : State) (s results : List ℕ) : Type 0 where
+  pub book : Book
+  pub accepted : A.FineBook book
+  pub fine : FineBook book
+  pub coded : compile book .code ≡ code
+  pub tables : Has (compile book) (20 * l .pool) (restOf (l .nodes) s)
+  pub moment : e.Moment m.Kept
+  pub stands : StandsFor book fine l moment (momentOf l n st s results)
+  pub clear : Clear (l .nodes) s
+  pub clean : Clean (l .nodes) s
+
+-- how many bytes of results there are after a step
+unfoldable pub writtenBy : State → Stepped → ℕ
+writtenBy st (Ended a) = st .written
+writtenBy st (On st′) = st′ .written
+
+-- One step. For every accepted book and every moment of its definition's run that the state stands for: the step ends the run with the definition's answer, or gives a
+-- state that stands for the definition's next moment, node numbers and forwards aside, each computation's stack included. Results written before stand, and bytes beyond
+-- those written are as lent.
+pub record StepTaken (l : e.Limits) (n : ℕ) (code : List ℕ) (st : State) (s s′ results results′ : List ℕ) (r : Stepped) : Type 0 where
+  pub next : (R : Runs l n code st s results) → StandsNext (R .book) (R .fine) l (e.step (m.turn (compile (R .book))) l (R .moment)) (nextOf l n s′ results′ r)
+  pub tables : (R : Runs l n code st s results) → Has (compile (R .book)) (20 * l .pool) (restOf (l .nodes) s′)
+  pub clear : Clear (l .nodes) s′
+  pub clean : Clean (l .nodes) s′
+  pub bounded : (st′ : State) → r ≡ On st′ → Bounded l n st′ s′ results′ × (st′ .turns ≡ suc (st .turns)) × (st .written ≤ st′ .written)
+  pub before : take (st .written) results′ ≡ take (st .written) results
+  pub behind : drop (writtenBy st r) results′ ≡ drop (writtenBy st r) results
+
+-- A run from a state on: the definition's answer and counts, and its results; bytes beyond those written are as lent.
+pub record RunDone (l : e.Limits) (n : ℕ) (code : List ℕ) (st : State) (s results results′ : List ℕ) (r : Done) : Type 0 where
+  pub is : (R : Runs l n code st s results) → e.closed code (e.runFrom (m.turn (compile (R .book))) l (suc (l .budget)) (R .moment)) ≡ e.outcome (answerIs (r .answer)) (countsIn (r .state)) (take (r .state .written) results′) code
+  pub behind : drop (r .state .written) results′ ≡ drop (r .state .written) results
+  pub written : r .state .written ≤ l .results
