@@ -6,6 +6,7 @@ pub mod Fronts
 pub mod Tabled
 pub mod Nexts
 pub mod Values
-pub mod Asks
+pub mod Demands
 pub mod Stepping
 pub mod Looping
+pub mod Opening

@@ -39,7 +39,7 @@ use Rattle.run.specs.Arms.{afterTurn, afterEnd, afterWent, afterSplit, a
 use Rattle.run.proofs.Fronts.{H}
 use Rattle.run.proofs.Tabled.{has-taken, has-only}
 use Rattle.run.proofs.Nexts.{Z, went-next, split-next, full-next, never-lost, failed-next, misfit-next}
-use Rattle.run.proofs.Asks.{few₀}
+use Rattle.run.proofs.Demands.{few₀}
 use Rattle.run.proofs.Values.{empty-next, spent-next, value-next}
 
 on-same : (a : Answer) (st st′ : State) → _≡_ {A = Stepped} (Ended a) (On st) → ⊥

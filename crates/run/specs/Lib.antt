@@ -1,3 +1,4 @@
 pub mod Given
 pub mod Between
 pub mod Arms
+pub mod Questions

@@ -1,5 +1,5 @@
 use Rattle.run.proofs.Stepping.{at-empty, at-spent, at-went, at-split, at-value, at-ended-failed, at-ended-misfit, at-full, at-lost}
-use Rattle.run.proofs.Asks.{turn-asks, taken-asks, went-asks, split-asks, value-asks, end-asks}
+use Rattle.run.proofs.Demands.{turn-asks, taken-asks, went-asks, split-asks, value-asks, end-asks}
 use native.Mathlib.Omega.{arith}
 use borrow.Author.Needs.{needs}
 use Rattle.run.proofs.steps.step.Statement.{statement}
