@@ -2,3 +2,4 @@ pub mod Given
 pub mod Between
 pub mod Arms
 pub mod Questions
+pub mod Filled

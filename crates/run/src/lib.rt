@@ -1,5 +1,5 @@
 // The run: a book, a question and limits, with three lent memories; the answer, the counts and the results.
-// Here: what is lent and given. The modules, lowest first: bounds, steps, loops, asks.
+// Here: what is lent and given. The modules, lowest first: bounds, steps, loops, asks, tables.
 // specs/Given has the contract.
 use book::Sort;
 
@@ -7,6 +7,7 @@ mod asks;
 mod bounds;
 mod loops;
 mod steps;
+mod tables;
 
 // The node limit, the pool limit, the budget, the results room and the code room.
 pub struct Limits {
