@@ -1,4 +1,3 @@
--- NOTE FROM THE FOUNDER, 16:01: this law is ALREADY PROVED by another worker: /tmp/w/s9/crates/turns/proofs/Few.antt (pub few-alternatives, pub front-of : Standing → Has → coded → Front). Copy that file into crates/turns/proofs (add `pub mod Few` to its Lib.antt) and use front-of; drop this file.
 -- A turn of an accepted book has at most 32 alternatives: a type has at most 32 constructors, and a RULE at most 16 RIGHTs.
 -- Here, in order: how many terms are built; the walk of a tree; the plain turn; the machine's; the turn on the store.
 -- Assumes nothing.
