@@ -10,7 +10,7 @@ pub mod Demands
 pub mod Stepping
 pub mod Looping
 pub mod Opening
-pub mod Counting
 pub mod Filling
 pub mod Slices
 pub mod Shown
+pub mod Prepared

@@ -1,11 +1,12 @@
 // The run: a book, a question and limits, with three lent memories; the answer, the counts and the results.
-// Here: what is lent and given. The modules, lowest first: bounds, steps, loops, asks, tables.
+// Here: what is lent and given. The modules, lowest first: bounds, steps, loops, asks, tables, setup.
 // specs/Given has the contract.
 use book::Sort;
 
 mod asks;
 mod bounds;
 mod loops;
+mod setup;
 mod steps;
 mod tables;
 
