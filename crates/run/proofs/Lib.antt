@@ -14,3 +14,4 @@ pub mod Filling
 pub mod Slices
 pub mod Shown
 pub mod Prepared
+pub mod Outcomes

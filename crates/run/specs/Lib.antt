@@ -4,3 +4,4 @@ pub mod Arms
 pub mod Questions
 pub mod Filled
 pub mod Setting
+pub mod Passed
