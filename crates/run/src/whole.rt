@@ -70,8 +70,8 @@ fn run_accepted(
         Compiled::TooLong(_) => {
             return refuse(Answer::LongCode);
         }
-        Compiled::Fault(w, p) => {
-            return refuse(Answer::BadBook(w, p));
+        Compiled::Fault(sort, place) => {
+            return refuse(Answer::BadBook(sort, place));
         }
     }
 }
