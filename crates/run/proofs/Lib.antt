@@ -1,7 +1,6 @@
 pub mod Only
 pub mod Ranges
 pub mod Arming
-pub mod Few
 pub mod Fronts
 pub mod Tabled
 pub mod Nexts
