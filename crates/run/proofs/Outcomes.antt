@@ -1,7 +1,7 @@
 -- The whole run: what is given is what the machine's definition gives.
 -- Here, in order: lent memory that nothing was written into; the refusals, in their order; what the limits say; the question asked; the outcome of a run that is not refused.
 -- Assumes nothing.
-use Prim.Native.Nat.{ℕ, _+_, _*_, _/_, _≤_, _<_}
+use Prim.Native.Nat.{ℕ, _+_, _≤_}
 use native.Mathlib.Omega.{arith}
 use mathlib.Core.Path.{_≡_, refl, ap, sym, _∙_, subst}
 use mathlib.Core.Bool.{Bool, true, false, _&&_}
@@ -18,7 +18,7 @@ use Rattle.book.specs.declared.Verdict.the-variants.{Accepted, BookFault, Quest
 use Rattle.book.specs.Syntax.{Book, Right}
 use Rattle.book.specs.Record.{Got, got, fault}
 use Rattle.book.specs.Reading.{readBook, readQuestion}
-use Rattle.book.specs.Answers.{counts, zeros, onQuestion, onBoth, checkQuestion}
+use Rattle.book.specs.Answers.{onQuestion, onBoth, checkQuestion}
 use Rattle.book.proofs.Acceptance.{book-fine}
 use Rattle.engine.specs.Compile.{compile}
 use Rattle.engine.specs.Machine as m

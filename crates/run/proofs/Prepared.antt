@@ -1,11 +1,11 @@
 -- A book set up: its code, and its tables ended at its counts; or its code is too long.
 -- Here, in order: the tables ended; room; the tables' words; the three answers.
 -- Assumes nothing.
-use Prim.Native.Nat.{ℕ, zero, suc, _+_, _*_, _-_, _/_, _≤_, _<_}
+use Prim.Native.Nat.{ℕ, suc, _+_, _*_, _-_, _/_, _≤_}
 use native.Mathlib.Omega.{arith}
 use mathlib.Core.Path.{_≡_, refl, ap, sym, _∙_, subst}
-use mathlib.Core.List.{List, [], _∷_, _++_, map}
-use lib.ListN.{length, getD, take, drop, length-map, length-drop}
+use mathlib.Core.List.{List, [], _∷_}
+use lib.ListN.{length, getD, drop, length-map, length-drop}
 use lib.Seq.{length-take-le}
 use borrow.Rule.Slice.PartMut.{put-same, same-len-mid, midOf}
 use Rattle.mem.specs.Words.{words}
@@ -14,24 +14,22 @@ use Rattle.book.specs.declared.Sort.{Sort}
 use Rattle.book.specs.declared.Read.{Read}
 use Rattle.book.specs.declared.Read.the-variants as read
 use Rattle.book.specs.Syntax.{Book, Func, Symbol, con, fun, arity, conArities}
-use Rattle.book.specs.Record.{got, fault}
+use Rattle.book.specs.Record.{fault}
 use Rattle.book.specs.Reading.{readBook}
-use Rattle.book.specs.Accepted.{arityIn}
 use Rattle.book.specs.Steps.{BookRead, bookIs}
 use Rattle.book.proofs.Acceptance.{book-fine, arity-small}
-use Rattle.engine.specs.Compile.{compile, ofFuncs, offsets}
+use Rattle.engine.specs.Compile.{compile, ofFuncs}
 use Rattle.engine.specs.Machine as m
 use Rattle.engine.specs.Run as e
 use Rattle.agreement.proofs.Places.{offsets-length}
-use Rattle.store.specs.Regions.{AllRoom, restOf}
+use Rattle.store.specs.Regions.{restOf}
 use Rattle.pool.specs.Ring.{RestRoom}
 use Rattle.compiler.specs.declared.Compiled.{Compiled}
 use Rattle.compiler.specs.declared.Compiled.the-variants.{Fits, TooLong, Fault}
 use Rattle.compiler.specs.Tables.{DoesFit, IsTooLong, compiledIs}
-use Rattle.machine.specs.Tables.{Has}
 use Rattle.machine.proofs.Tabled.{Counted, has-counted}
 use Rattle.run.specs.Filled.{Ended}
-use Rattle.run.specs.Setting.{EndedAt, Lends, SetUp, OverRoom, settingIs}
+use Rattle.run.specs.Setting.{EndedAt, Lends, settingIs}
 use Rattle.run.proofs.Slices.{ending, ending-word}
 
 -- a book that was read, by its answer

@@ -3,74 +3,52 @@ use Rattle.alternatives.proofs.Rounds.{refused, passed}
 use Rattle.run.proofs.Outcomes.{ran-limits, ran-book, ran-question, all-passed}
 use Rattle.run.proofs.whole.run.Statement.{statement}
 use Rattle.run.proofs.whole.run.Tie as tie
-use Rattle.run.proofs.whole.run.Reads as reads
-use Rattle.run.proofs.whole.run.Lts as lts
-use Rattle.book.proofs.check_question.Reads as check-question-reads
-use Rattle.run.proofs.bounds.fit.Reads as fit-reads
-use Rattle.run.proofs.whole.refuse.Reads as refuse-reads
-use Rattle.run.proofs.whole.run_accepted.Reads as run-accepted-reads
 
--- src/whole.rt:91:9
 fit-requires : tie.Need-fit-requires
 fit-requires c κs = search needs
 
--- src/whole.rt:92:9
 refuse-requires : tie.Need-refuse-requires
 refuse-requires c κs = search needs
 
--- src/whole.rt:92:9
 returns : tie.Need-returns
 returns c = ran-limits _ _ _ _ _ _ _ _ (c .before .before .fit .ensures) (refused _ (c .before .if1 .taken)) (c .refuse .ensures)
 
--- src/whole.rt:94:9
 check-question-requires : tie.Need-check-question-requires
 check-question-requires c κs = search needs
 
--- src/whole.rt:96:28
 enum-known-v : tie.Need-enum-known-v
 enum-known-v c = search needs
 
--- src/whole.rt:97:13
 refuse-requires-2 : tie.Need-refuse-requires-2
 refuse-requires-2 c κs = search needs
 
--- src/whole.rt:97:13
 returns-2 : tie.Need-returns-2
 returns-2 c = ran-book _ _ _ _ _ _ _ (c .before .before .before .before .before .before .fit .ensures) (passed _ (c .before .before .before .before .before .if1 .left)) _ _ _ _ (c .before .before .before .before .check-question .ensures) (c .before .before .v .given .1) (c .refuse2 .ensures)
 
--- src/whole.rt:99:32
 enum-known-v-2 : tie.Need-enum-known-v-2
 enum-known-v-2 c = search needs
 
--- src/whole.rt:100:13
 refuse-requires-3 : tie.Need-refuse-requires-3
 refuse-requires-3 c κs = search needs
 
--- src/whole.rt:100:13
 returns-3 : tie.Need-returns-3
 returns-3 c = ran-question _ _ _ _ _ _ _ (c .before .before .before .before .before .before .fit .ensures) (passed _ (c .before .before .before .before .before .if1 .left)) _ _ _ _ (c .before .before .before .before .check-question .ensures) (c .before .before .v2 .given .1) (c .refuse3 .ensures)
 
--- src/whole.rt:103:57
 enum-told : tie.Need-enum-told
 enum-told c = search needs
 
--- src/whole.rt:103:13
 run-accepted-requires : tie.Need-run-accepted-requires
 run-accepted-requires c κs = all-passed _ _ _ _ _ _ _ (c .before .before .before .before .before .before .before .fit .ensures) (passed _ (c .before .before .before .before .before .before .if1 .left)) _ (c .before .before .before .before .before .check-question .ensures) (c .before .before .before .enum-told .given .1)
 
--- src/whole.rt:103:13
 same-length : tie.Need-same-length
 same-length c = search needs
 
--- src/whole.rt:103:13
 same-length-2 : tie.Need-same-length-2
 same-length-2 c = search needs
 
--- src/whole.rt:103:13
 same-length-3 : tie.Need-same-length-3
 same-length-3 c = search needs
 
--- src/whole.rt:103:13
 returns-4 : tie.Need-returns-4
 returns-4 c = search needs
 

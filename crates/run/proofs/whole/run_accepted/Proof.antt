@@ -4,90 +4,64 @@ use borrow.Author.Needs.{needs}
 use Rattle.run.proofs.Outcomes.{lends, code-there, roomy, code-short, asks, ran-done, ran-long, ran-never}
 use Rattle.run.proofs.whole.run_accepted.Statement.{statement}
 use Rattle.run.proofs.whole.run_accepted.Tie as tie
-use Rattle.run.proofs.whole.run_accepted.Reads as reads
-use Rattle.run.proofs.whole.run_accepted.Lts as lts
-use Rattle.run.proofs.asks.ask.Reads as ask-reads
-use Rattle.run.proofs.setup.set_up.Reads as set-up-reads
-use Rattle.run.proofs.whole.give.Reads as give-reads
-use Rattle.run.proofs.whole.refuse.Reads as refuse-reads
 
--- src/whole.rt:65:9
 set-up-requires : tie.Need-set-up-requires
 set-up-requires c κs = lends _ _ _ _ _ _ (c .before .before .before .before .before .before .before .pre)
 
--- src/whole.rt:67:24
 enum-known-s : tie.Need-enum-known-s
 enum-known-s c = search needs
 
--- src/whole.rt:68:31
 slice-reshare-prefix-ask : tie.Need-slice-reshare-prefix-ask
 slice-reshare-prefix-ask c = code-there _ _ _ _ _ _ (c .before .before .before .before .before .before .before .before .before .before .before .before .before .before .before .before .pre) _ _ _ _ (c .before .before .before .before .before .before .before .before .set-up .ensures) (c .before .before .s .given .1)
 
--- src/whole.rt:68:31
 slice-aggregate-ask : tie.Need-slice-aggregate-ask
 slice-aggregate-ask c = sym (length-take-le _ _ (code-there _ _ _ _ _ _ (c .before .before .before .before .before .before .before .before .before .before .before .before .before .before .before .before .before .pre) _ _ _ _ (c .before .before .before .before .before .before .before .before .before .set-up .ensures) (c .before .before .before .s .given .1)))
 
--- src/whole.rt:68:17
 ask-requires : tie.Need-ask-requires
 ask-requires c κs = (roomy _ _ _ _ _ _ (c .before .before .before .before .before .before .before .before .before .before .before .before .before .before .before .before .before .before .pre) _ _ _ _ (c .before .before .before .before .before .before .before .before .before .before .set-up .ensures) (c .before .before .before .before .s .given .1), (code-short _ _ _ _ _ _ (c .before .before .before .before .before .before .before .before .before .before .before .before .before .before .before .before .before .before .pre) _ _ _ _ (c .before .before .before .before .before .before .before .before .before .before .set-up .ensures) (c .before .before .before .before .s .given .1), asks _ _ _ _ _ _ (c .before .before .before .before .before .before .before .before .before .before .before .before .before .before .before .before .before .before .pre) _ _ _ _ (c .before .before .before .before .before .before .before .before .before .before .set-up .ensures) (c .before .before .before .before .s .given .1)))
 
--- src/whole.rt:69:13
 give-requires : tie.Need-give-requires
 give-requires c κs = search needs
 
--- src/whole.rt:69:13
 same-length : tie.Need-same-length
 same-length c = search needs
 
--- src/whole.rt:69:13
 same-length-2 : tie.Need-same-length-2
 same-length-2 c = search needs
 
--- src/whole.rt:69:13
 same-length-3 : tie.Need-same-length-3
 same-length-3 c = search needs
 
--- src/whole.rt:69:13
 returns : tie.Need-returns
 returns c = ran-done _ _ _ _ _ _ (c .before .before .before .before .before .before .before .before .before .before .before .before .before .before .before .before .before .before .before .before .before .before .before .before .pre) _ _ _ _ (c .before .before .before .before .before .before .before .before .before .before .before .before .before .before .before .before .set-up .ensures) (c .before .before .before .before .before .before .before .before .before .before .s .given .1) _ _ _ _ (c .before .before .before .before .before .ask .ensures) (c .before .before .before .before .before .ask .kept .1 .1 .0) (c .give .ensures)
 
--- src/whole.rt:72:27
 enum-told : tie.Need-enum-told
 enum-told c = search needs
 
--- src/whole.rt:72:13
 refuse-requires : tie.Need-refuse-requires
 refuse-requires c κs = search needs
 
--- src/whole.rt:72:13
 same-length-4 : tie.Need-same-length-4
 same-length-4 c = search needs
 
--- src/whole.rt:72:13
 same-length-5 : tie.Need-same-length-5
 same-length-5 c = search needs
 
--- src/whole.rt:72:13
 returns-2 : tie.Need-returns-2
 returns-2 c = ran-long _ _ _ _ _ _ (c .before .before .before .before .before .before .before .before .before .before .before .before .before .before .before .pre) _ _ _ _ _ (c .before .before .before .before .before .before .before .set-up .ensures) (c .before .enum-told .given .1) (c .refuse .ensures)
 
--- src/whole.rt:74:25
 enum-known-s-2 : tie.Need-enum-known-s-2
 enum-known-s-2 c = search needs
 
--- src/whole.rt:75:13
 refuse-requires-2 : tie.Need-refuse-requires-2
 refuse-requires-2 c κs = search needs
 
--- src/whole.rt:75:13
 same-length-6 : tie.Need-same-length-6
 same-length-6 c = search needs
 
--- src/whole.rt:75:13
 same-length-7 : tie.Need-same-length-7
 same-length-7 c = search needs
 
--- src/whole.rt:75:13
 returns-3 : tie.Need-returns-3
 returns-3 c = ran-never _ _ _ _ _ _ (c .before .before .before .before .before .before .before .before .before .before .before .before .before .before .before .before .pre) _ _ _ _ _ _ (c .before .before .before .before .before .before .before .before .set-up .ensures) (c .before .before .s2 .given .1)
 
