@@ -100,7 +100,7 @@ module _ (g : Graph) (a x : ℕ) (p : node g a ≡ fwd x) where
   unfolding shortened ledOn
   one-forward e q r = rw (p, ← q, eq-eqb x e r, shortened, ledOn)
 
-  more-forwards : (e : ℕ) → e ≡ follow g a → x ≢ e → shortened (suc a) g ≡ set (set g a (fwd e)) x (fwd (led (node g e) a e))
+  pub more-forwards : (e : ℕ) → e ≡ follow g a → x ≢ e → shortened (suc a) g ≡ set (set g a (fwd e)) x (fwd (led (node g e) a e))
   unfolding shortened ledOn
   more-forwards e q r = subst (λ (e′ : ℕ). ledOn g a e′ (node g a) ≡ set (set g a (fwd e)) x (fwd (led (node g e) a e))) q (rw (p, ne-eqb x e r, ledOn))
 
