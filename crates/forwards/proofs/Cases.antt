@@ -5,18 +5,15 @@ use native.Mathlib.Omega.{arith}
 use native.Mathlib.Decide.{decLt}
 use mathlib.Core.Path.{_≡_, refl, ap, sym, _∙_, subst}
 use mathlib.Core.Logic.{_≢_, ⊎-elim}
-use mathlib.Core.Bool.{true, false}
 use mathlib.Core.List.{List, [], _∷_}
 use lib.ListN.{length, set, List·getD-eq-default}
-use lib.Dec.{eqb}
 use types.Run.{OneOf}
 use denote.Enum.Declared.{tagOf}
 use borrow.Author.Tests.{eq-eqb, ne-eqb}
-use Rattle.mem.specs.Words.{words}
 use Rattle.book.specs.Syntax.{con, fun}
 use Rattle.heap.specs.Graph.{Node, cell, var, fwd, Graph, node, follow}
 use Rattle.store.specs.Rows.{seen}
-use Rattle.store.specs.Regions.{Memory, memory, graphOf, withGraph, setNode, Did}
+use Rattle.store.specs.Regions.{memory, graphOf, withGraph, setNode, Did}
 use Rattle.store.proofs.Laws.{length-graph, deref-go, deref-past, follow-is}
 use Rattle.store.proofs.Writes.{did-then}
 use Rattle.store.proofs.Seen as the
@@ -25,7 +22,7 @@ use Rattle.book.specs.declared.FunNo.{FunNo}
 use Rattle.store.specs.declared.NodeNo.{NodeNo}
 use Rattle.store.specs.declared.Seen.{Seen}
 use Rattle.store.specs.declared.Seen.the-variants.{Var, Con, Call, Fwd}
-use Rattle.forwards.specs.Shortcut.{led, ledOn, shortened, shortenTop, Shortened}
+use Rattle.forwards.specs.Shortcut.{led, ledOn, shortened, Shortened}
 
 -- where the second node is led, by what is seen at the end
 unfoldable ledBy : Seen → ℕ → ℕ → ℕ

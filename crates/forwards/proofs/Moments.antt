@@ -1,20 +1,19 @@
 -- The forwards from the front's stack are shortened: every computation stands in the store as before, for the same moment of the definition.
 -- Here, in order: the computation itself; what the top of its stack leads to; the pool; the moment.
 -- Assumes nothing.
-use Prim.Native.Nat.{ℕ, suc}
-use mathlib.Core.Path.{_≡_, refl}
-use mathlib.Core.List.{List, [], _∷_, List·Memᴰ}
-use lib.ListN.{length}
+use Prim.Native.Nat.{ℕ}
+use mathlib.Core.Path.{refl}
+use mathlib.Core.List.{List, [], _∷_}
 use Rattle.book.specs.Syntax.{Book}
 use Rattle.book.specs.Answers.{Counts}
 use Rattle.heap.specs.Graph.{Graph}
 use Rattle.heap.specs.Store.{Store}
 use Rattle.heap.specs.Alike.{Each}
-use Rattle.engine.specs.Machine.{Held, Kept, heldOf}
+use Rattle.engine.specs.Machine.{Held, Kept}
 use Rattle.engine.specs.Run.{Limits, Moment, moment}
 use Rattle.agreement.proofs.Calls.{FineBook}
 use Rattle.standing.specs.Shared.{storeMoment}
-use Rattle.standing.specs.Stands.{World, Rel, Dom, Ours, Reps, Stands, Pool, empty, join, Queue}
+use Rattle.standing.specs.Stands.{World, Rel, Dom, Ours, Reps, Stands, Pool, join}
 use Rattle.standing.specs.Moments.{StandsFor, stands-for}
 use Rattle.standing.proofs.Stands.{pool-frame}
 use Rattle.forwards.specs.Shortcut.{shortened, shortStore, topOf}

@@ -1,10 +1,10 @@
 -- A shortcut changes where forwards lead by the way, and nothing else that is read.
 -- Here, in order: a graph led otherwise; what is alike with it; a forward's number; the two nodes of a shortcut; the shortcut from a top.
 -- Assumes nothing.
-use Prim.Native.Nat.{ℕ, zero, suc, _≤_, _<_}
+use Prim.Native.Nat.{ℕ, suc, _≤_, _<_}
 use native.Mathlib.Omega.{arith}
 use native.Mathlib.Decide.{ℕ-discrete, decLt}
-use mathlib.Core.Path.{_≡_, refl, ap, sym, _∙_, subst}
+use mathlib.Core.Path.{_≡_, refl, sym, _∙_, subst}
 use mathlib.Core.Logic.{_≢_, _⊎_, inl, inr}
 use mathlib.Core.List.{List, [], _∷_}
 use lib.ListN.{length, set, length-set, List·getD-eq-default}
