@@ -1,13 +1,13 @@
 // Chains of forwards stay short: before each turn of a computation the forwards from its stack's top are led on to their end.
 //
-// Why that is enough. A call becomes a forward only where the forwards of the stack's top entry end, and the entry stays on the stack until its
-// end is no call. So a call that forwards lead to is the end of an entry: it is not under another entry's end as well, since the graph has no
-// cycle. Constructors and variables never become forwards, and alternatives are copied without any. What is left is one entry a whose end is
-// replaced again and again: a leads on to the new end, and each node that was the end leads back to a, so that a turn reads at most two forwards
-// in a row, and at most three where a copy is made with one forward more.
+// Why that is enough. A call becomes a forward only where the forwards of the stack's top entry end, and an entry stays on the stack until its
+// end is no call. So forwards lead to a call only if it is the end of an entry. What the top entry's call is replaced by lies under that call; the
+// graph has no cycle, so it is not the end of an entry further down, and no other forwards lead to it. Constructors and variables never become
+// forwards, and alternatives are copied without any. What is left is one entry whose end is replaced again and again: it leads on to the new end,
+// and each node that was the end leads back to it. So a turn reads at most two forwards in a row, and a copy, made as if there were one more, three.
 //
-// Here, in order: where the second node of a chain is led; both led on; the chain from a stack's top. specs/Shortcut says what is written; proofs say that every
-// computation stands in the store as before.
+// Here, in order: where the second node of a chain is led; both led on; the chain from a stack's top.
+// specs/Shortcut says what is written; proofs/Moments that every computation stands in the store as before.
 use store::NodeNo;
 use store::Seen;
 ghost use mathlib.Core.Path.{_≡_};
