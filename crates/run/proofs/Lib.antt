@@ -7,6 +7,7 @@ pub mod Nexts
 pub mod Values
 pub mod Demands
 pub mod Stepping
+pub mod Shortening
 pub mod Looping
 pub mod Opening
 pub mod Filling
