@@ -1,17 +1,14 @@
 -- A whole book compiled: what its parts give together, and what the compiler answers.
-use Prim.Native.Nat.{ℕ, zero, suc, _+_, _-_, _*_, _≤_, _<_}
+use Prim.Native.Nat.{ℕ, _+_, _*_, _≤_, _<_}
 use native.Mathlib.Nat.{zero-add}
 use native.Mathlib.Omega.{arith}
 use mathlib.Core.Path.{_≡_, refl, ap, sym, _∙_, subst}
-use mathlib.Core.Logic.{_⊎_, inl, inr}
-use mathlib.Core.List.{List, [], _∷_, _++_, map}
-use lib.ListN.{length, getD, getElem?, take, drop, length-map}
-use lib.Seq.{sets, sets-eq}
+use mathlib.Core.Logic.{inl, inr}
+use mathlib.Core.List.{List, [], map}
+use lib.ListN.{length, getD, length-map}
+use lib.Seq.{sets-eq}
 use Rattle.mem.specs.Words.{words}
-use Rattle.book.specs.Syntax.{arity, Book, conArities, consOf}
-use Rattle.book.specs.Reading.{readBook}
-use Rattle.book.specs.Record.{got, fault}
-use Rattle.book.specs.Steps.{typesOf}
+use Rattle.book.specs.Syntax.{arity, conArities}
 use Rattle.book.specs.Accepted.{FineBook}
 use Rattle.book.specs.declared.Read.{Read}
 use Rattle.book.specs.declared.Read.the-variants as read
@@ -20,8 +17,7 @@ use Rattle.book.proofs.Acceptance.{book-fine}
 use Rattle.engine.specs.Compile.{compile}
 use Rattle.compiler.specs.Rows.{row, loadBody}
 use Rattle.compiler.specs.Here.{startAt, Surveyed, FuncsHere, FuncsDone}
-use Rattle.compiler.specs.Tables.{Tables, HomeOf, FunsNoted, ConsNoted, ConsKnown, frontAt, BookKnown, BookDone, surveyIs, DoesFit, IsTooLong, compiledIs}
-use Rattle.compiler.specs.declared.Compiled.{Compiled}
+use Rattle.compiler.specs.Tables.{HomeOf, FunsNoted, ConsNoted, ConsKnown, frontAt, BookKnown, BookDone, surveyIs, compiledIs}
 use Rattle.compiler.specs.declared.Compiled.the-variants.{Fits, TooLong, Fault}
 use Rattle.compiler.proofs.Filling.{front-all, home-is}
 

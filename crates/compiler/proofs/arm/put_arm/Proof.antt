@@ -1,19 +1,12 @@
-use borrow.Author.Needs.{needs}
 use native.Mathlib.Omega.{arith}
-use mathlib.Core.Path.{_≡_, refl, ap, sym, _∙_}
-use Prim.Native.Nat.{_+_, _-_, _*_, _≤_, _<_}
-use mathlib.Core.List.{[], _∷_, _++_}
-use lib.ListN.{length, getD, take, drop, length-set, length-append, replicate}
-use lib.Seq.{sets, length-sets}
-use Rattle.compiler.proofs.Writing.{emits-long, emits-then, emits-as, progress-start, progress-step, progress-end, progress-stop, progress-room, one, two, three, five}
-use Rattle.compiler.proofs.Loops.{row-long, row-step, row-all, more, none-left, instance-long, vars-long, vars-more, args-con, args-fun, args-none, code-con, code-fun, code-fresh, code-slot, back-step, back-none, arm-step, arm-none, back-room, arm-room, progress-long}
-use Rattle.compiler.specs.Rows.{Emits, Progress, row, numCode, back, varsCode, armCode, argsAt}
+use mathlib.Core.Path.{_≡_, refl}
+use Prim.Native.Nat.{_+_}
+use lib.ListN.{take, drop}
+use Rattle.compiler.proofs.Writing.{emits-long, progress-start, progress-step, progress-end, progress-room}
+use Rattle.compiler.proofs.Loops.{arm-step, arm-none, arm-room}
+use Rattle.compiler.specs.Rows.{Progress, armCode}
 use Rattle.compiler.proofs.arm.put_arm.Statement.{statement}
 use Rattle.compiler.proofs.arm.put_arm.Tie as tie
-use Rattle.compiler.proofs.arm.put_arm.Reads as reads
-use Rattle.compiler.proofs.arm.put_arm.Lts as lts
-use Rattle.compiler.proofs.code.put1.Reads as put1-reads
-use Rattle.compiler.proofs.arm.put_instance.Reads as put-instance-reads
 
 abbrev Inv-loop : tie.InvT-loop
 Inv-loop lore c n code₀ o con₀ left₀ out₀ code con left out = (con + left ≡ c + n) × Progress code₀ code o out (armCode con (take left (drop con lore))) (armCode c (take n (drop c lore)))

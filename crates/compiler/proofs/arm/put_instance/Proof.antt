@@ -1,19 +1,11 @@
-use borrow.Author.Needs.{needs}
 use native.Mathlib.Omega.{arith}
-use mathlib.Core.Path.{_≡_, refl, ap, sym, _∙_}
-use Prim.Native.Nat.{_+_, _-_, _*_, _≤_, _<_}
 use mathlib.Core.List.{[], _∷_, _++_}
-use lib.ListN.{length, getD, take, drop, length-set, length-append, replicate}
-use lib.Seq.{sets, length-sets}
-use Rattle.compiler.proofs.Writing.{emits-long, emits-then, emits-as, progress-start, progress-step, progress-end, progress-stop, progress-room, one, two, three, five}
-use Rattle.compiler.proofs.Loops.{row-long, row-step, row-all, more, none-left, instance-long, vars-long, vars-more, args-con, args-fun, args-none, code-con, code-fun, code-fresh, code-slot, back-step, back-none, arm-step, arm-none, back-room, arm-room, progress-long}
-use Rattle.compiler.specs.Rows.{Emits, Progress, row, numCode, back, varsCode, armCode, argsAt}
+use lib.ListN.{replicate}
+use Rattle.compiler.proofs.Writing.{emits-long, progress-start, progress-step, progress-end, progress-room}
+use Rattle.compiler.proofs.Loops.{more, none-left, instance-long}
+use Rattle.compiler.specs.Rows.{Progress}
 use Rattle.compiler.proofs.arm.put_instance.Statement.{statement}
 use Rattle.compiler.proofs.arm.put_instance.Tie as tie
-use Rattle.compiler.proofs.arm.put_instance.Reads as reads
-use Rattle.compiler.proofs.arm.put_instance.Lts as lts
-use Rattle.compiler.proofs.code.put1.Reads as put1-reads
-use Rattle.compiler.proofs.code.put3.Reads as put3-reads
 
 abbrev Inv-loop : tie.InvT-loop
 Inv-loop a c code₀ o left₀ out₀ code left out = Progress code₀ code o out (replicate left 0x35 ++ 0x38 ∷ 0 ∷ c ∷ []) (replicate a 0x35 ++ 0x38 ∷ 0 ∷ c ∷ [])

@@ -1,16 +1,11 @@
 use borrow.Author.Needs.{needs}
 use native.Mathlib.Omega.{arith}
-use mathlib.Core.Path.{_≡_, refl, ap, sym, _∙_}
-use Prim.Native.Nat.{_+_, _-_, _*_, _≤_, _<_}
-use lib.ListN.{length, getD}
-use Rattle.compiler.specs.Rows.{armAt, splitAt, costAt, widthAt}
-use Rattle.compiler.specs.Here.{RcdHere, Surveyed}
-use Rattle.compiler.proofs.Costs.{split-at, arm-more, arm-end, cost-rule-one, cost-rule-more, cost-right, cost-slot, cost-fresh, cost-none, cost-front, cost-symbol, width-split, width-none, width-two, Kinds, kinds, Ahead, short, ahead-start, ahead-on, ahead-end}
+use mathlib.Core.Path.{_≡_, refl}
+use Prim.Native.Nat.{_+_, _*_, _≤_}
+use Rattle.compiler.specs.Rows.{armAt}
+use Rattle.compiler.proofs.Costs.{arm-more, arm-end}
 use Rattle.compiler.proofs.length.arm_length.Statement.{statement}
 use Rattle.compiler.proofs.length.arm_length.Tie as tie
-use Rattle.compiler.proofs.length.arm_length.Reads as reads
-use Rattle.compiler.proofs.length.arm_length.Lts as lts
-use Rattle.compiler.proofs.code.wide.Reads as wide-reads
 
 abbrev Inv-loop : tie.InvT-loop
 Inv-loop lore c n con₀ left₀ sum₀ con left sum = (con + left ≡ c + n) × (sum + armAt lore con left ≡ armAt lore c n + 1) × (sum + 258 * left ≤ 258 * n + 1)

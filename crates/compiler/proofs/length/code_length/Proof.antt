@@ -1,17 +1,11 @@
 use borrow.Author.Needs.{needs}
 use native.Mathlib.Omega.{arith}
-use mathlib.Core.Path.{_≡_, refl, ap, sym, _∙_}
-use Prim.Native.Nat.{_+_, _-_, _*_, _≤_, _<_}
-use lib.ListN.{length, getD}
-use Rattle.compiler.specs.Rows.{armAt, splitAt, costAt, widthAt}
-use Rattle.compiler.specs.Here.{RcdHere, Surveyed}
-use Rattle.compiler.proofs.Costs.{split-at, arm-more, arm-end, cost-rule-one, cost-rule-more, cost-right, cost-slot, cost-fresh, cost-none, cost-front, cost-symbol, width-split, width-none, width-two, Kinds, kinds, Ahead, short, ahead-start, ahead-on, ahead-end}
+use Prim.Native.Nat.{_-_, _*_, _≤_}
+use lib.ListN.{length}
+use Rattle.compiler.specs.Here.{Surveyed}
+use Rattle.compiler.proofs.Costs.{Ahead, short, ahead-start, ahead-on, ahead-end}
 use Rattle.compiler.proofs.length.code_length.Statement.{statement}
 use Rattle.compiler.proofs.length.code_length.Tie as tie
-use Rattle.compiler.proofs.length.code_length.Reads as reads
-use Rattle.compiler.proofs.length.code_length.Lts as lts
-use Rattle.compiler.proofs.length.cost_at.Reads as cost-at-reads
-use Rattle.compiler.proofs.length.width.Reads as width-reads
 
 abbrev Inv-loop : tie.InvT-loop
 Inv-loop book lore at₀ sum₀ at sum = ((at ≤ length book) × (sum ≤ 70000 * at)) × ((x : Surveyed book lore) → Ahead x at sum)

@@ -1,17 +1,9 @@
 use borrow.Author.Needs.{needs}
 use native.Mathlib.Omega.{arith}
-use mathlib.Core.Path.{_≡_, refl, ap, sym, _∙_}
-use Prim.Native.Nat.{_+_, _-_, _*_, _≤_, _<_}
-use lib.ListN.{length, getD}
-use Rattle.compiler.specs.Rows.{armAt, splitAt, costAt, widthAt}
-use Rattle.compiler.specs.Here.{RcdHere, Surveyed}
-use Rattle.compiler.proofs.Costs.{split-at, arm-more, arm-end, cost-rule-one, cost-rule-more, cost-right, cost-slot, cost-fresh, cost-none, cost-front, cost-symbol, width-split, width-none, width-two, Kinds, kinds, Ahead, short, ahead-start, ahead-on, ahead-end}
+use mathlib.Core.Path.{_∙_}
+use Rattle.compiler.proofs.Costs.{kinds}
 use Rattle.compiler.proofs.length.cost_at.Statement.{statement}
 use Rattle.compiler.proofs.length.cost_at.Tie as tie
-use Rattle.compiler.proofs.length.cost_at.Reads as reads
-use Rattle.compiler.proofs.length.cost_at.Lts as lts
-use Rattle.compiler.proofs.length.record_cost.Reads as record-cost-reads
-use Rattle.compiler.proofs.length.split_cost.Reads as split-cost-reads
 
 shared-slice-read-kind : tie.Need-shared-slice-read-kind
 shared-slice-read-kind c = omega (arith, (kinds (c .before .before .before .pre)) .one)

@@ -1,15 +1,7 @@
-use borrow.Author.Needs.{needs}
-use native.Mathlib.Omega.{arith}
-use mathlib.Core.Path.{_≡_, refl, ap, sym, _∙_}
-use Prim.Native.Nat.{_+_, _-_, _*_, _≤_, _<_}
-use lib.ListN.{length, getD}
-use Rattle.compiler.specs.Rows.{armAt, splitAt, costAt, widthAt}
-use Rattle.compiler.specs.Here.{RcdHere, Surveyed}
-use Rattle.compiler.proofs.Costs.{split-at, arm-more, arm-end, cost-rule-one, cost-rule-more, cost-right, cost-slot, cost-fresh, cost-none, cost-front, cost-symbol, width-split, width-none, width-two, Kinds, kinds, Ahead, short, ahead-start, ahead-on, ahead-end}
+use mathlib.Core.Path.{sym}
+use Rattle.compiler.proofs.Costs.{width-split, width-none, width-two}
 use Rattle.compiler.proofs.length.width.Statement.{statement}
 use Rattle.compiler.proofs.length.width.Tie as tie
-use Rattle.compiler.proofs.length.width.Reads as reads
-use Rattle.compiler.proofs.length.width.Lts as lts
 
 returns : tie.Need-returns
 returns c = sym (width-split _ (c .if1 .taken))

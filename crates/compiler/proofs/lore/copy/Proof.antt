@@ -1,17 +1,11 @@
-use borrow.Author.Needs.{needs}
 use native.Mathlib.Omega.{arith}
-use mathlib.Core.Path.{_≡_, refl, ap, sym, _∙_, subst}
-use Prim.Native.Nat.{_+_, _-_, _*_, _≤_, _<_}
-use lib.ListN.{length, getD, take, drop, length-set, length-drop}
-use lib.Seq.{sets, length-sets, take-length, take-all}
-use Rattle.mem.specs.Words.{words}
-use Rattle.compiler.specs.Here.{TypesNoted, FuncsHere, FuncsDone}
-use Rattle.compiler.proofs.Funcs.{copy-step, noted-start, noted-step, types-small, started, Left, left-start, left-end, left-turns, part-all}
-use Rattle.compiler.proofs.Loops.{progress-long}
+use mathlib.Core.Path.{_≡_, refl, ap, _∙_}
+use Prim.Native.Nat.{_-_, _≤_}
+use lib.ListN.{length, take}
+use lib.Seq.{sets, length-sets, take-all}
+use Rattle.compiler.proofs.Funcs.{copy-step}
 use Rattle.compiler.proofs.lore.copy.Statement.{statement}
 use Rattle.compiler.proofs.lore.copy.Tie as tie
-use Rattle.compiler.proofs.lore.copy.Reads as reads
-use Rattle.compiler.proofs.lore.copy.Lts as lts
 
 abbrev Inv-loop : tie.InvT-loop
 Inv-loop src dst₀ at j₀ dst j = (j ≤ length src) × (dst ≡ sets dst₀ at (take j src))

@@ -1,19 +1,11 @@
 use borrow.Author.Needs.{needs}
 use native.Mathlib.Omega.{arith}
-use mathlib.Core.Path.{_≡_, refl, ap, sym, _∙_, subst}
-use mathlib.Core.List.{List}
-use Rattle.compiler.specs.Here.{TypesNoted}
-use Prim.Native.Nat.{ℕ, _+_, _-_, _*_, _≤_, _<_}
-use lib.ListN.{length, getD, length-set, length-drop}
-use lib.Seq.{sets, length-sets}
-use Rattle.mem.specs.Words.{words}
-use Rattle.compiler.specs.Tables.{FunsNoted, ConsNoted, frontAt, surveyIs, BookKnown}
-use Rattle.compiler.proofs.Filling.{book-gathered, types-known, book-known, survey-got, survey-lost, survey-is, front-more, front-none, funs-start, funs-step, cons-start, cons-step, home-small}
+use mathlib.Core.Path.{_≡_, ap, sym, _∙_}
+use Prim.Native.Nat.{_+_, _-_, _*_, _≤_}
+use Rattle.compiler.specs.Tables.{frontAt}
+use Rattle.compiler.proofs.Filling.{front-more, front-none}
 use Rattle.compiler.proofs.lore.front_at.Statement.{statement}
 use Rattle.compiler.proofs.lore.front_at.Tie as tie
-use Rattle.compiler.proofs.lore.front_at.Reads as reads
-use Rattle.compiler.proofs.lore.front_at.Lts as lts
-use Rattle.compiler.proofs.code.wide.Reads as wide-reads
 
 abbrev Inv-loop : tie.InvT-loop
 Inv-loop lore n at₀ t₀ at t = (t ≤ n) × (at ≡ frontAt lore t) × (at ≤ 512 * t)

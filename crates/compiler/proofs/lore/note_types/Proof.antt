@@ -1,18 +1,11 @@
-use borrow.Author.Needs.{needs}
 use native.Mathlib.Omega.{arith}
-use mathlib.Core.Path.{_≡_, refl, ap, sym, _∙_, subst}
-use Prim.Native.Nat.{_+_, _-_, _*_, _≤_, _<_}
-use lib.ListN.{length, getD, take, drop, length-set, length-drop}
-use lib.Seq.{sets, length-sets, take-length, take-all}
-use Rattle.mem.specs.Words.{words}
-use Rattle.compiler.specs.Here.{TypesNoted, FuncsHere, FuncsDone}
-use Rattle.compiler.proofs.Funcs.{copy-step, noted-start, noted-step, types-small, started, Left, left-start, left-end, left-turns, part-all}
-use Rattle.compiler.proofs.Loops.{progress-long}
+use mathlib.Core.Path.{subst}
+use Prim.Native.Nat.{_-_, _≤_}
+use lib.ListN.{length-set}
+use Rattle.compiler.specs.Here.{TypesNoted}
+use Rattle.compiler.proofs.Funcs.{noted-start, noted-step, types-small}
 use Rattle.compiler.proofs.lore.note_types.Statement.{statement}
 use Rattle.compiler.proofs.lore.note_types.Tie as tie
-use Rattle.compiler.proofs.lore.note_types.Reads as reads
-use Rattle.compiler.proofs.lore.note_types.Lts as lts
-use Rattle.book.proofs.type_at.Reads as type-at-reads
 
 abbrev Inv-loop : tie.InvT-loop
 Inv-loop book n lore₀ t₀ lore t = (t ≤ n) × TypesNoted book lore₀ lore t

@@ -1,21 +1,7 @@
 use borrow.Author.Needs.{needs}
-use native.Mathlib.Omega.{arith}
-use mathlib.Core.Path.{_≡_, refl, ap, sym, _∙_, subst}
-use mathlib.Core.List.{List}
-use Rattle.compiler.specs.Here.{TypesNoted}
-use Prim.Native.Nat.{ℕ, _+_, _-_, _*_, _≤_, _<_}
-use lib.ListN.{length, getD, length-set, length-drop}
-use lib.Seq.{sets, length-sets}
-use Rattle.mem.specs.Words.{words}
-use Rattle.compiler.specs.Tables.{FunsNoted, ConsNoted, frontAt, surveyIs, BookKnown}
-use Rattle.compiler.proofs.Filling.{book-gathered, types-known, book-known, survey-got, survey-lost, survey-is, front-more, front-none, funs-start, funs-step, cons-start, cons-step, home-small}
+use Rattle.compiler.proofs.Filling.{book-gathered, types-known, survey-got, survey-lost, survey-is}
 use Rattle.compiler.proofs.lore.survey.Statement.{statement}
 use Rattle.compiler.proofs.lore.survey.Tie as tie
-use Rattle.compiler.proofs.lore.survey.Reads as reads
-use Rattle.compiler.proofs.lore.survey.Lts as lts
-use Rattle.book.proofs.read_book.Reads as read-book-reads
-use Rattle.compiler.proofs.lore.copy.Reads as copy-reads
-use Rattle.compiler.proofs.lore.note_types.Reads as note-types-reads
 
 slice-aggregate-read-book : tie.Need-slice-aggregate-read-book
 slice-aggregate-read-book c = search needs

@@ -1,17 +1,13 @@
 use borrow.Author.Needs.{needs}
 use native.Mathlib.Omega.{arith}
-use mathlib.Core.Path.{_≡_, refl, ap, sym, _∙_}
-use Prim.Native.Nat.{_+_, _-_, _*_, _≤_, _<_}
-use mathlib.Core.List.{[], _∷_, _++_}
-use lib.ListN.{length, getD, take, drop, length-set, length-append, replicate}
+use mathlib.Core.Path.{_≡_, refl, _∙_}
+use Prim.Native.Nat.{_-_, _≤_}
+use lib.ListN.{take}
 use lib.Seq.{sets, length-sets}
-use Rattle.compiler.proofs.Writing.{emits-long, emits-then, emits-as, progress-start, progress-step, progress-end, progress-stop, progress-room, one, two, three, five}
-use Rattle.compiler.proofs.Loops.{row-long, row-step, row-all, more, none-left, instance-long, vars-long, vars-more, args-con, args-fun, args-none, code-con, code-fun, code-fresh, code-slot, back-step, back-none, arm-step, arm-none, back-room, arm-room, progress-long}
-use Rattle.compiler.specs.Rows.{Emits, Progress, row, numCode, back, varsCode, armCode, argsAt}
+use Rattle.compiler.proofs.Loops.{row-long, row-step, row-all}
+use Rattle.compiler.specs.Rows.{row}
 use Rattle.compiler.proofs.position.put_row.Statement.{statement}
 use Rattle.compiler.proofs.position.put_row.Tie as tie
-use Rattle.compiler.proofs.position.put_row.Reads as reads
-use Rattle.compiler.proofs.position.put_row.Lts as lts
 
 abbrev Inv-loop : tie.InvT-loop
 Inv-loop rows i code₀ o from j₀ code j = (j ≤ 9) × (code ≡ sets code₀ o (take j (row rows i)))

@@ -1,24 +1,13 @@
 use borrow.Author.Needs.{needs}
 use native.Mathlib.Omega.{arith}
-use mathlib.Core.Path.{_≡_, refl, ap, sym, _∙_}
-use Prim.Native.Nat.{_+_, _-_, _*_, _≤_, _<_}
-use mathlib.Core.List.{[], _∷_, _++_}
-use lib.ListN.{length, getD, take, drop, length-set, length-append, replicate}
+use mathlib.Core.Path.{_≡_, refl}
+use Prim.Native.Nat.{_-_, _*_, _≤_}
+use lib.ListN.{take, length-set}
 use lib.Seq.{sets, length-sets}
-use Rattle.compiler.proofs.Writing.{emits-long, emits-then, emits-as, progress-start, progress-step, progress-end, progress-stop, progress-room, one, two, three, five}
-use Rattle.compiler.proofs.Loops.{row-long, row-step, row-all, more, none-left, instance-long, vars-long, vars-more, args-con, args-fun, args-none, code-con, code-fun, code-fresh, code-slot, back-step, back-none, arm-step, arm-none, back-room, arm-room, progress-long}
-use Rattle.compiler.specs.Rows.{Emits, Progress, row, numCode, back, varsCode, armCode, argsAt, Keeps, Stepped, Grown, Fronts}
-use Rattle.compiler.proofs.Rights.{Left, left-start, left-turns, left-none, Turn}
-use Rattle.compiler.proofs.Rowing.{copied-step, stepped, grown-start, grown-step}
-use Rattle.compiler.proofs.Trees.{fronts, front-place, grow-kept}
-use Rattle.compiler.specs.Here.{RightsHere, RightsDone, TreeHere, TreeDone}
-use mathlib.Core.Logic.{_⊎_, inl, inr}
-use mathlib.Core.Path.{_≡_, refl, ap, sym, _∙_, subst}
+use Rattle.compiler.specs.Rows.{row}
+use Rattle.compiler.proofs.Rowing.{copied-step, stepped}
 use Rattle.compiler.proofs.position.put_step.Statement.{statement}
 use Rattle.compiler.proofs.position.put_step.Tie as tie
-use Rattle.compiler.proofs.position.put_step.Reads as reads
-use Rattle.compiler.proofs.position.put_step.Lts as lts
-use Rattle.compiler.proofs.code.wide.Reads as wide-reads
 
 abbrev Inv-loop : tie.InvT-loop
 Inv-loop rows₀ slot to step from base len j₀ rows j = (j ≤ 9) × (rows ≡ sets rows₀ (9 * to) (take j (row rows₀ slot)))

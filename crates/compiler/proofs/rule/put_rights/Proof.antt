@@ -1,26 +1,12 @@
-use borrow.Author.Needs.{needs}
 use native.Mathlib.Omega.{arith}
-use mathlib.Core.Path.{_≡_, refl, ap, sym, _∙_}
-use Prim.Native.Nat.{_+_, _-_, _*_, _≤_, _<_}
-use mathlib.Core.List.{[], _∷_, _++_}
-use lib.ListN.{length, getD, take, drop, length-set, length-append, replicate}
-use lib.Seq.{sets, length-sets}
-use Rattle.compiler.proofs.Writing.{emits-long, emits-then, emits-as, progress-start, progress-step, progress-end, progress-stop, progress-room, one, two, three, five}
-use Rattle.compiler.proofs.Loops.{row-long, row-step, row-all, more, none-left, instance-long, vars-long, vars-more, args-con, args-fun, args-none, code-con, code-fun, code-fresh, code-slot, back-step, back-none, arm-step, arm-none, back-room, arm-room, progress-long}
-use Rattle.compiler.specs.Rows.{Emits, Progress, row, numCode, back, varsCode, armCode, argsAt, Keeps, Stepped, Grown, Fronts}
-use Rattle.compiler.proofs.Rights.{Left, left-start, left-turns, left-none, Turn}
-use Rattle.compiler.proofs.Rowing.{copied-step, stepped, grown-start, grown-step}
-use Rattle.compiler.proofs.Trees.{fronts, front-place, grow-kept}
-use Rattle.compiler.specs.Here.{RightsHere, RightsDone, TreeHere, TreeDone}
-use mathlib.Core.Logic.{_⊎_, inl, inr}
-use mathlib.Core.Path.{_≡_, refl, ap, sym, _∙_, subst}
+use mathlib.Core.Path.{refl, ap}
+use Rattle.compiler.proofs.Writing.{emits-long, emits-as}
+use Rattle.compiler.proofs.Loops.{vars-long, progress-long}
+use Rattle.compiler.specs.Rows.{varsCode}
+use Rattle.compiler.proofs.Rights.{Left, left-start, left-turns, left-none}
+use Rattle.compiler.specs.Here.{RightsHere}
 use Rattle.compiler.proofs.rule.put_rights.Statement.{statement}
 use Rattle.compiler.proofs.rule.put_rights.Tie as tie
-use Rattle.compiler.proofs.rule.put_rights.Reads as reads
-use Rattle.compiler.proofs.rule.put_rights.Lts as lts
-use Rattle.compiler.proofs.term.put_term.Reads as put-term-reads
-use Rattle.compiler.proofs.rule.put_vars.Reads as put-vars-reads
-use Rattle.compiler.proofs.term.term_size.Reads as term-size-reads
 
 abbrev Inv-loop : tie.InvT-loop
 Inv-loop s lore rows from n code₀ o at₀ left₀ out₀ code at left out = (x : RightsHere s lore rows from n o code₀) → Left x at left out code

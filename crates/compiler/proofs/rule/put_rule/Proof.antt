@@ -1,28 +1,11 @@
 use borrow.Author.Needs.{needs}
 use native.Mathlib.Omega.{arith}
-use mathlib.Core.Path.{_≡_, refl, ap, sym, _∙_}
-use Prim.Native.Nat.{ℕ, _+_, _-_, _*_, _≤_, _<_}
-use mathlib.Core.List.{[], _∷_, _++_}
-use lib.ListN.{length, getD, take, drop, length-set, length-append, replicate}
-use lib.Seq.{sets, length-sets}
-use Rattle.compiler.proofs.Writing.{emits-long, emits-then, emits-as, progress-start, progress-step, progress-end, progress-stop, progress-room, one, two, three, five}
-use Rattle.compiler.proofs.Loops.{row-long, row-step, row-all, more, none-left, instance-long, vars-long, vars-more, args-con, args-fun, args-none, code-con, code-fun, code-fresh, code-slot, back-step, back-none, arm-step, arm-none, back-room, arm-room, progress-long}
-use Rattle.compiler.specs.Rows.{Emits, Progress, row, numCode, back, varsCode, armCode, argsAt, Keeps, Stepped, Grown, Fronts}
-use Rattle.compiler.proofs.Rights.{Left, left-start, left-turns, left-none, Turn}
-use Rattle.compiler.proofs.Rowing.{copied-step, stepped, grown-start, grown-step}
-use Rattle.compiler.proofs.Trees.{fronts, front-place, grow-kept}
-use Rattle.compiler.specs.Here.{RightsHere, RightsDone, TreeHere, TreeDone}
-use mathlib.Core.Logic.{_⊎_, inl, inr}
-use mathlib.Core.Path.{_≡_, refl, ap, sym, _∙_, subst}
-use Rattle.compiler.proofs.Trees.{RuleIs, rule-is, ending-one, ending-more}
+use mathlib.Core.Path.{refl, ap, sym, _∙_}
+use lib.ListN.{length}
+use Rattle.compiler.proofs.Writing.{emits-long, emits-as}
+use Rattle.compiler.proofs.Trees.{rule-is, ending-one, ending-more}
 use Rattle.compiler.proofs.rule.put_rule.Statement.{statement}
 use Rattle.compiler.proofs.rule.put_rule.Tie as tie
-use Rattle.compiler.proofs.rule.put_rule.Reads as reads
-use Rattle.compiler.proofs.rule.put_rule.Lts as lts
-use Rattle.compiler.proofs.code.put1.Reads as put1-reads
-use Rattle.compiler.proofs.code.put2.Reads as put2-reads
-use Rattle.compiler.proofs.rule.put_rights.Reads as put-rights-reads
-use Rattle.compiler.proofs.code.wide.Reads as wide-reads
 
 add-k : tie.Need-add-k
 add-k c = omega (arith, (rule-is (c .before .before .before .before .pre .0) _ refl (c .before .before .before .before .pre .1)) .inside)

@@ -1,18 +1,11 @@
-use borrow.Author.Needs.{needs}
 use native.Mathlib.Omega.{arith}
-use mathlib.Core.Path.{_≡_, refl, ap, sym, _∙_}
-use Prim.Native.Nat.{_+_, _-_, _*_, _≤_, _<_}
-use mathlib.Core.List.{[], _∷_, _++_}
-use lib.ListN.{length, getD, take, drop, length-set, length-append, replicate}
-use lib.Seq.{sets, length-sets}
-use Rattle.compiler.proofs.Writing.{emits-long, emits-then, emits-as, progress-start, progress-step, progress-end, progress-stop, progress-room, one, two, three, five}
-use Rattle.compiler.proofs.Loops.{row-long, row-step, row-all, more, none-left, instance-long, vars-long, vars-more, args-con, args-fun, args-none, code-con, code-fun, code-fresh, code-slot, back-step, back-none, arm-step, arm-none, back-room, arm-room, progress-long}
-use Rattle.compiler.specs.Rows.{Emits, Progress, row, numCode, back, varsCode, armCode, argsAt}
+use mathlib.Core.Path.{refl, ap}
+use Prim.Native.Nat.{_-_, _≤_}
+use Rattle.compiler.proofs.Writing.{emits-long, emits-then, emits-as}
+use Rattle.compiler.proofs.Loops.{vars-long, vars-more}
+use Rattle.compiler.specs.Rows.{Emits, varsCode}
 use Rattle.compiler.proofs.rule.put_vars.Statement.{statement}
 use Rattle.compiler.proofs.rule.put_vars.Tie as tie
-use Rattle.compiler.proofs.rule.put_vars.Reads as reads
-use Rattle.compiler.proofs.rule.put_vars.Lts as lts
-use Rattle.compiler.proofs.code.put2.Reads as put2-reads
 
 abbrev Inv-loop : tie.InvT-loop
 Inv-loop v code₀ o i₀ out₀ code i out = (i ≤ v) × Emits code₀ code o out (varsCode i)

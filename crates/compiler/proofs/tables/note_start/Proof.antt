@@ -1,18 +1,7 @@
 use borrow.Author.Needs.{needs}
-use native.Mathlib.Omega.{arith}
-use mathlib.Core.Path.{_≡_, refl, ap, sym, _∙_, subst}
-use Prim.Native.Nat.{_+_, _-_, _*_, _≤_, _<_}
-use lib.ListN.{length, getD, take, drop, length-set, length-drop}
-use lib.Seq.{sets, length-sets, take-length, take-all}
-use Rattle.mem.specs.Words.{words}
-use Rattle.compiler.specs.Here.{TypesNoted, FuncsHere, FuncsDone}
-use Rattle.compiler.proofs.Funcs.{copy-step, noted-start, noted-step, types-small, started, Left, left-start, left-end, left-turns, part-all}
-use Rattle.compiler.proofs.Loops.{progress-long}
+use Rattle.compiler.proofs.Funcs.{started}
 use Rattle.compiler.proofs.tables.note_start.Statement.{statement}
 use Rattle.compiler.proofs.tables.note_start.Tie as tie
-use Rattle.compiler.proofs.tables.note_start.Reads as reads
-use Rattle.compiler.proofs.tables.note_start.Lts as lts
-use Rattle.mem.proofs.put.Reads as put-reads
 
 mul-put : tie.Need-mul-put
 mul-put c = search needs

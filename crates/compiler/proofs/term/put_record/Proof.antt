@@ -1,22 +1,13 @@
 use borrow.Author.Needs.{needs}
 use native.Mathlib.Omega.{arith}
-use mathlib.Core.Path.{_≡_, refl, ap, sym, _∙_}
-use Prim.Native.Nat.{_+_, _-_, _*_, _≤_, _<_}
-use mathlib.Core.List.{[], _∷_, _++_}
-use lib.ListN.{length, getD, take, drop, length-set, length-append, replicate}
-use lib.Seq.{sets, length-sets}
-use Rattle.compiler.proofs.Writing.{emits-long, emits-then, emits-as, progress-start, progress-step, progress-end, progress-stop, progress-room, one, two, three, five}
-use Rattle.compiler.proofs.Loops.{row-long, row-step, row-all, more, none-left, instance-long, vars-long, vars-more, args-con, args-fun, args-none, code-con, code-fun, code-fresh, code-slot, back-step, back-none, arm-step, arm-none, back-room, arm-room, progress-long}
-use Rattle.compiler.specs.Rows.{Emits, Progress, row, numCode, back, varsCode, armCode, argsAt}
+use mathlib.Core.Path.{sym}
+use mathlib.Core.List.{[], _∷_}
+use lib.ListN.{length-append}
+use Rattle.compiler.proofs.Writing.{emits-long, emits-then, emits-as}
+use Rattle.compiler.proofs.Loops.{row-long, code-con, code-fun, code-fresh, code-slot}
+use Rattle.compiler.specs.Rows.{row}
 use Rattle.compiler.proofs.term.put_record.Statement.{statement}
 use Rattle.compiler.proofs.term.put_record.Tie as tie
-use Rattle.compiler.proofs.term.put_record.Reads as reads
-use Rattle.compiler.proofs.term.put_record.Lts as lts
-use Rattle.compiler.proofs.code.put1.Reads as put1-reads
-use Rattle.compiler.proofs.code.put2.Reads as put2-reads
-use Rattle.compiler.proofs.code.put3.Reads as put3-reads
-use Rattle.compiler.proofs.position.put_load.Reads as put-load-reads
-use Rattle.compiler.proofs.code.wide.Reads as wide-reads
 
 put3-requires : tie.Need-put3-requires
 put3-requires c κs = let e = code-con (c .before .before .before .before .args .rows .now) (c .before .before .before .before .args .kind) (c .before .before .before .before .args .n) (c .before .if1 .taken) in let h = rw e at (c .before .before .before .before .pre .1) in omega arith

@@ -1,18 +1,10 @@
-use borrow.Author.Needs.{needs}
 use native.Mathlib.Omega.{arith}
-use mathlib.Core.Path.{_≡_, refl, ap, sym, _∙_}
-use Prim.Native.Nat.{_+_, _-_, _*_, _≤_, _<_}
-use mathlib.Core.List.{[], _∷_, _++_}
-use lib.ListN.{length, getD, take, drop, length-set, length-append, replicate}
-use lib.Seq.{sets, length-sets}
-use Rattle.compiler.proofs.Writing.{emits-long, emits-then, emits-as, progress-start, progress-step, progress-end, progress-stop, progress-room, one, two, three, five}
-use Rattle.compiler.proofs.Loops.{row-long, row-step, row-all, more, none-left, instance-long, vars-long, vars-more, args-con, args-fun, args-none, code-con, code-fun, code-fresh, code-slot, back-step, back-none, arm-step, arm-none, back-room, arm-room, progress-long}
-use Rattle.compiler.specs.Rows.{Emits, Progress, row, numCode, back, varsCode, armCode, argsAt}
+use Prim.Native.Nat.{_≤_}
+use Rattle.compiler.proofs.Writing.{progress-start, progress-step, progress-stop}
+use Rattle.compiler.proofs.Loops.{back-step, back-none, back-room, progress-long}
+use Rattle.compiler.specs.Rows.{Progress, back}
 use Rattle.compiler.proofs.term.put_term.Statement.{statement}
 use Rattle.compiler.proofs.term.put_term.Tie as tie
-use Rattle.compiler.proofs.term.put_term.Reads as reads
-use Rattle.compiler.proofs.term.put_term.Lts as lts
-use Rattle.compiler.proofs.term.put_record.Reads as put-record-reads
 
 abbrev Inv-loop : tie.InvT-loop
 Inv-loop s rows from n code₀ o left₀ out₀ code left out = (left ≤ n) × Progress code₀ code o out (back rows s from left) (back rows s from n)

@@ -1,20 +1,10 @@
-use borrow.Author.Needs.{needs}
 use native.Mathlib.Omega.{arith}
-use mathlib.Core.Path.{_≡_, refl, ap, sym, _∙_}
-use Prim.Native.Nat.{_+_, _-_, _*_, _≤_, _<_}
-use mathlib.Core.List.{[], _∷_, _++_}
-use lib.ListN.{length, getD, take, drop, length-set, length-append, replicate}
-use lib.Seq.{sets, length-sets}
-use Rattle.compiler.proofs.Writing.{emits-long, emits-then, emits-as, progress-start, progress-step, progress-end, progress-stop, progress-room, one, two, three, five}
-use Rattle.compiler.proofs.Loops.{row-long, row-step, row-all, more, none-left, instance-long, vars-long, vars-more, args-con, args-fun, args-none, code-con, code-fun, code-fresh, code-slot, back-step, back-none, arm-step, arm-none, back-room, arm-room, progress-long}
-use Rattle.compiler.specs.Rows.{Emits, Progress, row, numCode, back, varsCode, armCode, argsAt}
-use Rattle.compiler.proofs.Terms.{Due, due-start, due-small, due-none, due-goes, term-inside}
+use Prim.Native.Nat.{_-_}
+use lib.ListN.{length}
+use Rattle.compiler.proofs.Terms.{Due, due-start, due-small, due-none, due-goes}
 use Rattle.compiler.specs.Here.{TermHere}
 use Rattle.compiler.proofs.term.term_size.Statement.{statement}
 use Rattle.compiler.proofs.term.term_size.Tie as tie
-use Rattle.compiler.proofs.term.term_size.Reads as reads
-use Rattle.compiler.proofs.term.term_size.Lts as lts
-use Rattle.compiler.proofs.term.args_at.Reads as args-at-reads
 
 abbrev Inv-loop : tie.InvT-loop
 Inv-loop s lore from at₀ due₀ n₀ at due n = (x : TermHere s lore from) → Due s lore from x at due n

@@ -1,21 +1,8 @@
 use borrow.Author.Needs.{needs}
 use native.Mathlib.Omega.{arith}
-use mathlib.Core.Path.{_≡_, refl, ap, sym, _∙_, subst}
-use Prim.Native.Nat.{ℕ, _+_, _-_, _*_, _≤_, _<_}
-use lib.ListN.{length, getD}
-use lib.Seq.{sets, length-sets}
-use Rattle.mem.specs.Words.{words}
-use Rattle.compiler.specs.Rows.{row}
-use Rattle.compiler.specs.Tables.{BookKnown, BookDone}
-use Rattle.compiler.proofs.Wholes.{few, cons-known, funcs-here, surveyed, book-done, known, answer-fault, answer-long, answer-fits}
+use Rattle.compiler.proofs.Wholes.{few, cons-known, funcs-here, book-done}
 use Rattle.compiler.proofs.whole.compile_book.Statement.{statement}
 use Rattle.compiler.proofs.whole.compile_book.Tie as tie
-use Rattle.compiler.proofs.whole.compile_book.Reads as reads
-use Rattle.compiler.proofs.whole.compile_book.Lts as lts
-use Rattle.compiler.proofs.whole.compile_funcs.Reads as compile-funcs-reads
-use Rattle.compiler.proofs.lore.front_at.Reads as front-at-reads
-use Rattle.compiler.proofs.tables.note_cons.Reads as note-cons-reads
-use Rattle.compiler.proofs.tables.note_funs.Reads as note-funs-reads
 
 front-at-requires : tie.Need-front-at-requires
 front-at-requires c κs = ((c .before .before .before .before .before .pre .0) .told .long, few (c .before .before .before .before .before .pre .0) .2)

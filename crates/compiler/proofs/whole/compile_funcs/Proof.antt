@@ -1,21 +1,14 @@
 use borrow.Author.Needs.{needs}
 use native.Mathlib.Omega.{arith}
-use mathlib.Core.Path.{_≡_, refl, ap, sym, _∙_, subst}
-use Prim.Native.Nat.{_+_, _-_, _*_, _≤_, _<_}
-use lib.ListN.{length, getD, take, drop, length-set, length-drop}
-use lib.Seq.{sets, length-sets, take-length, take-all}
+use mathlib.Core.Path.{_≡_, refl, sym, _∙_}
+use Prim.Native.Nat.{_+_, _-_}
+use lib.ListN.{length}
 use Rattle.mem.specs.Words.{words}
-use Rattle.compiler.specs.Here.{TypesNoted, FuncsHere, FuncsDone}
-use Rattle.compiler.proofs.Funcs.{copy-step, noted-start, noted-step, types-small, started, Left, left-start, left-end, left-turns, part-all}
+use Rattle.compiler.specs.Here.{FuncsHere}
+use Rattle.compiler.proofs.Funcs.{Left, left-start, left-end, left-turns, part-all}
 use Rattle.compiler.proofs.Loops.{progress-long}
 use Rattle.compiler.proofs.whole.compile_funcs.Statement.{statement}
 use Rattle.compiler.proofs.whole.compile_funcs.Tie as tie
-use Rattle.compiler.proofs.whole.compile_funcs.Reads as reads
-use Rattle.compiler.proofs.whole.compile_funcs.Lts as lts
-use Rattle.compiler.proofs.tree.compile_tree.Reads as compile-tree-reads
-use Rattle.compiler.proofs.position.grow.Reads as grow-reads
-use Rattle.compiler.proofs.tables.note_start.Reads as note-start-reads
-use Rattle.compiler.proofs.code.wide.Reads as wide-reads
 
 abbrev Inv-loop : tie.InvT-loop
 Inv-loop book lore rows₀ from tables₀ code₀ at₀ out₀ f₀ rows tables code at out f = (length tables ≡ length tables₀) × ((x : FuncsHere book lore rows₀ (words tables₀) from code₀) → Left x rows (words tables) code at out f)

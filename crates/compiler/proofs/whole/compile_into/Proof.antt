@@ -1,20 +1,10 @@
 use borrow.Author.Needs.{needs}
 use native.Mathlib.Omega.{arith}
-use mathlib.Core.Path.{_≡_, refl, ap, sym, _∙_, subst}
-use Prim.Native.Nat.{ℕ, _+_, _-_, _*_, _≤_, _<_}
-use lib.ListN.{length, getD}
-use lib.Seq.{sets, length-sets}
-use Rattle.mem.specs.Words.{words}
+use mathlib.Core.Path.{refl}
 use Rattle.compiler.specs.Rows.{row}
-use Rattle.compiler.specs.Tables.{BookKnown, BookDone}
-use Rattle.compiler.proofs.Wholes.{few, cons-known, funcs-here, surveyed, book-done, known, answer-fault, answer-long, answer-fits}
+use Rattle.compiler.proofs.Wholes.{surveyed, known, answer-fault, answer-long, answer-fits}
 use Rattle.compiler.proofs.whole.compile_into.Statement.{statement}
 use Rattle.compiler.proofs.whole.compile_into.Tie as tie
-use Rattle.compiler.proofs.whole.compile_into.Reads as reads
-use Rattle.compiler.proofs.whole.compile_into.Lts as lts
-use Rattle.compiler.proofs.length.code_length.Reads as code-length-reads
-use Rattle.compiler.proofs.whole.compile_book.Reads as compile-book-reads
-use Rattle.compiler.proofs.lore.survey.Reads as survey-reads
 
 slice-aggregate-survey : tie.Need-slice-aggregate-survey
 slice-aggregate-survey c = search needs
