@@ -1,7 +1,5 @@
 -- An accepted book's bytes are the records of what was read.
-use Prim.Native.Nat.{ℕ, zero, suc, _+_, _≤_, _<_}
-use native.Mathlib.Nat.{add-assoc}
-use native.Mathlib.Numerals.{add-one}
+use Prim.Native.Nat.{ℕ, zero, suc, _+_, _≤_}
 use native.Mathlib.Omega.{arith}
 use mathlib.Core.Path.{_≡_, refl, ap, sym, _∙_, subst}
 use mathlib.Core.Bool.{Bool, true, false}
@@ -10,18 +8,18 @@ use mathlib.Core.Option.{Option, none, some}
 use lib.ListN.{length, getD, drop, drop-of-length-le}
 use lib.Seq.{drop-cons}
 use lib.Dec.{ltb, leb, eqb}
-use borrow.Author.Tests.{ltb-true, ltb-false, leb-true, eqb-true}
-use Rattle.book.specs.Syntax.{Symbol, con, fun, Term, Terms, app, slot, fresh, done, arg, Right, Tree, Trees, split, rule, norule, stop, child, Func, Book, conArities, consOf}
+use borrow.Author.Tests.{leb-true, eqb-true}
+use Rattle.book.specs.Syntax.{Terms, done, arg, Tree, Func, Book, conArities, consOf}
 use Rattle.book.specs.declared.Sort.{Sort}
 use Rattle.book.specs.declared.Rec.{Rec}
 use Rattle.book.specs.declared.Rec.the-variants.{Of, Bad}
 use Rattle.book.specs.Record.{Got, got, fault, bodyOf, bodyByte, recAt, scan, bookFits, funcArities}
-use Rattle.book.specs.Reading.{after, make, Case, pick, Names, Head, slotCase, readHead, firstOf, othersOf, joined, readTerms, theOne, readRight, readRights, Slots, splits, under, readTrees, readTree, readCons, isKind, readTypes, readFuncs, readBook}
+use Rattle.book.specs.Reading.{after, make, Case, pick, Names, Head, slotCase, readHead, firstOf, othersOf, joined, readTerms, theOne, readRight, readRights, Slots, under, readTrees, readTree, readCons, isKind, readTypes, readFuncs, readBook}
 use Rattle.book.specs.Accepted.{count}
 use Rattle.book.proofs.Fairness.{both-hold}
 use Rattle.book.proofs.Acceptance.{book-ends}
 use Rattle.book.proofs.Enough.{terms-are-due}
-use Rattle.compiler.specs.Records.{Rcd, aType, aCons, aFunc, aSplit, aRule, aRight, aSymbol, aSlot, aFresh, aNone, bytesOf, bytes, termRecs, termsRecs, rightRecs, rightsRecs, treeRecs, treesRecs, funcsRecs, typesRecs, bookRecs}
+use Rattle.compiler.specs.Records.{Rcd, aCons, bytesOf, bytes, termRecs, termsRecs, rightRecs, rightsRecs, treeRecs, treesRecs, funcsRecs, typesRecs, bookRecs}
 
 pub bytes-append : (a b : List Rcd) → bytes (a ++ b) ≡ bytes a ++ bytes b
 bytes-append [] b = refl

@@ -1,28 +1,27 @@
 -- The children of a SPLIT as they stand in the book, one after the other.
 use Prim.Native.Nat.{ℕ, zero, suc, _+_, _-_, _*_, _≤_, _<_}
-use native.Mathlib.Nat.{add-assoc}
 use native.Mathlib.Omega.{arith}
 use mathlib.Core.Path.{_≡_, refl, ap, sym, _∙_, subst}
-use mathlib.Core.Bool.{Bool, true, false, _&&_}
+use mathlib.Core.Bool.{true}
 use mathlib.Core.Logic.{_⊎_, inl, inr}
-use mathlib.Core.List.{List, [], _∷_, _++_, append-assoc, append-nil, map}
-use lib.ListN.{length, getD, take, drop, length-append, length-drop}
+use mathlib.Core.List.{List, [], _∷_, _++_, append-assoc, map}
+use lib.ListN.{length, getD, drop, length-append, length-drop}
 use lib.Seq.{sets, length-sets}
 use lib.Dec.{leb}
 use borrow.Author.Tests.{leb-true}
 use Rattle.book.specs.Syntax.{Tree, Trees, split, rule, norule, stop, child}
-use Rattle.book.specs.Reading.{Slots, allFit, under}
-use Rattle.book.specs.Accepted.{FineTree, FineTrees}
+use Rattle.book.specs.Reading.{allFit, under}
+use Rattle.book.specs.Accepted.{FineTrees}
 use Rattle.book.proofs.Fairness.{both-hold}
 use Rattle.engine.specs.Code.{Instr, four, encode, emit, go}
 use Rattle.engine.specs.Compile.{Positions, below, ofTree, ofTrees, offsets, flat}
 use Rattle.compiler.specs.Records.{bytes, treeRecs, treesRecs}
-use Rattle.compiler.specs.Rows.{Rows, Lore, row, loadBody, Emits, Grown, Keeps}
-use Rattle.compiler.specs.Here.{Match, TreeHere, TreeDone, TreesHere, TreesDone}
+use Rattle.compiler.specs.Rows.{Rows, Emits, Grown, Keeps}
+use Rattle.compiler.specs.Here.{TreeHere, TreeDone, TreesHere, TreesDone}
 use Rattle.compiler.specs.declared.Ends.{Ends}
 use Rattle.compiler.proofs.Bytes.{bytes-append}
 use Rattle.compiler.proofs.Writing.{sets-append, sets-comm, emits-long}
-use Rattle.compiler.proofs.Loops.{row-long, row-at}
+use Rattle.compiler.proofs.Loops.{row-at}
 use Rattle.compiler.proofs.Terms.{skipped, emit-append}
 use Rattle.compiler.proofs.Rowing.{rows-below, below-long, match-under}
 use Rattle.compiler.proofs.Splits.{gos-long, offsets-long, four-long, trees-long}

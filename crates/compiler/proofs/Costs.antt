@@ -1,25 +1,21 @@
 -- What each record of the book brings of code, as the lore gives it, and the walk over all of them.
-use Prim.Native.Nat.{ℕ, zero, suc, _+_, _-_, _*_, _≤_, _<_}
-use native.Mathlib.Nat.{add-assoc, add-zero, zero-add}
+use Prim.Native.Nat.{ℕ, suc, _+_, _-_, _*_, _≤_, _<_}
+use native.Mathlib.Nat.{add-zero, zero-add}
 use native.Mathlib.Numerals.{add-one}
 use native.Mathlib.Omega.{arith}
 use mathlib.Core.Path.{_≡_, refl, ap, sym, _∙_, subst}
-use mathlib.Core.Bool.{Bool, true, false}
-use mathlib.Core.List.{List, [], _∷_, _++_, append-assoc, append-nil, map}
+use mathlib.Core.List.{List, [], _∷_, _++_, map}
 use lib.ListN.{length, getD, take, drop, length-append, length-drop, drop-of-length-le}
 use lib.Seq.{drop-cons}
-use lib.Dec.{eqb, ltb}
 use borrow.Author.Tests.{eq-eqb, ne-eqb, lt-ltb, le-ltb}
-use Rattle.book.specs.Syntax.{Symbol, con, fun, Term, Terms, app, slot, fresh, done, arg, Right, Tree, Trees, split, rule, norule, stop, child, Func, arity, Book, conArities, consOf, firstCon}
-use Rattle.book.specs.Record.{got}
-use Rattle.book.specs.Reading.{readBook}
-use Rattle.book.specs.Accepted.{FineTree, FineTrees, FineFunc, FineBook}
+use Rattle.book.specs.Syntax.{con, fun, Term, Terms, app, slot, fresh, done, arg, Right, Tree, Trees, split, rule, norule, stop, child, Func, arity, Book, consOf}
+use Rattle.book.specs.Accepted.{FineTree, FineTrees, FineBook}
 use Rattle.book.proofs.Acceptance.{book-fine, book-short}
 use Rattle.engine.specs.Compile.{compile}
-use Rattle.compiler.specs.Records.{Rcd, aType, aCons, aFunc, aSplit, aRule, aRight, aSymbol, aSlot, aFresh, aNone, bytesOf, bytes, termRecs, termsRecs, rightRecs, rightsRecs, treeRecs, treesRecs, funcsRecs, typesRecs, bookRecs, armCost, cost, costs}
-use Rattle.compiler.specs.Rows.{Lore, widthAt, armAt, splitAt, costAt}
+use Rattle.compiler.specs.Records.{Rcd, aType, aCons, aFunc, aSplit, aRule, aRight, aSymbol, aSlot, aFresh, aNone, bytesOf, bytes, termRecs, termsRecs, rightsRecs, treeRecs, treesRecs, funcsRecs, typesRecs, bookRecs, armCost, cost, costs}
+use Rattle.compiler.specs.Rows.{widthAt, armAt, splitAt, costAt}
 use Rattle.compiler.specs.Here.{FineRcd, RcdHere, Surveyed}
-use Rattle.compiler.proofs.Bytes.{bytes-append, book-bytes}
+use Rattle.compiler.proofs.Bytes.{book-bytes}
 use Rattle.compiler.proofs.Terms.{head-is, two-are, skipped}
 use Rattle.compiler.proofs.Splits.{lore-part}
 use Rattle.compiler.proofs.Lengths.{code-cost, fine-all, FineAll}

@@ -1,5 +1,5 @@
 -- The lore of a book from what was read, and the machine's tables.
-use Prim.Native.Nat.{ℕ, zero, suc, _+_, _-_, _*_, _≤_, _<_}
+use Prim.Native.Nat.{ℕ, zero, suc, _+_, _*_, _≤_, _<_}
 use native.Mathlib.Nat.{add-assoc, add-zero, zero-add, add-suc, suc-add}
 use native.Mathlib.Numerals.{add-one}
 use native.Mathlib.Omega.{arith}
@@ -7,25 +7,22 @@ use mathlib.Core.Path.{_≡_, refl, ap, sym, _∙_, subst}
 use mathlib.Core.Bool.{Bool, true, false}
 use mathlib.Core.Logic.{_⊎_, inl, inr}
 use mathlib.Core.Option.{some}
-use mathlib.Core.List.{List, [], _∷_, _++_, append-assoc, append-nil, map}
-use lib.ListN.{List·getD-append, length, getD, getElem?, take, drop, set, replicate, length-append, length-take, length-drop, length-set, length-map}
+use mathlib.Core.List.{List, [], _∷_, _++_, append-assoc, map}
+use lib.ListN.{List·getD-append, length, getD, getElem?, take, drop, length-append, length-take, length-map}
 use lib.Seq.{sets, length-sets, sets-eq, take-suc, take-all, length-take-le, getD-take, getD-append-add, getD-set-same, getD-set-other}
 use lib.Dec.{ltb, eqb}
 use borrow.Author.Tests.{ltb-true, ltb-false, eqb-true, eqb-false}
-use Rattle.mem.specs.Words.{words, Wrote}
-use Rattle.book.specs.Syntax.{Func, arity, Book, join, conArities, consOf, firstCon}
-use Rattle.book.specs.Reading.{readBook}
-use Rattle.book.specs.Record.{got, fault}
-use Rattle.book.specs.Steps.{typesOf, Front, BookRead, bookIs}
+use Rattle.mem.specs.Words.{Wrote}
+use Rattle.book.specs.Syntax.{arity, join, conArities, consOf, firstCon}
+use Rattle.book.specs.Steps.{typesOf, BookRead, bookIs}
 use Rattle.book.specs.Facts.{HomeIs}
 use Rattle.book.specs.Accepted.{FineTypes, FineBook}
 use Rattle.book.specs.declared.Read.{Read}
 use Rattle.book.specs.declared.Read.the-variants as read
 use Rattle.book.specs.declared.Home.{Home}
 use Rattle.book.proofs.Acceptance.{book-fine}
-use Rattle.engine.specs.Compile.{Program, compile}
 use Rattle.engine.specs.Machine.{members, homes}
-use Rattle.compiler.specs.Records.{Rcd, aType, aCons, bytes, bytesOf, typesRecs}
+use Rattle.compiler.specs.Records.{aCons, bytes, typesRecs}
 use Rattle.compiler.specs.Rows.{Lore}
 use Rattle.compiler.specs.Here.{TypesKnown, TypesNoted}
 use Rattle.compiler.specs.Tables.{HomeOf, FunsNoted, ConsNoted, ConsKnown, frontAt, BookKnown, surveyIs}

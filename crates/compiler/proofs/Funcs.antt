@@ -1,33 +1,31 @@
 -- The lore gathered, the starts noted, and the functions compiled one after the other.
-use Prim.Native.Nat.{ℕ, zero, suc, _+_, _-_, _*_, _/_, _%_, _≤_, _<_}
-use native.Mathlib.Nat.{add-assoc, add-zero, zero-add, add-comm, mul-comm, div-add-mod'}
+use Prim.Native.Nat.{ℕ, suc, _+_, _-_, _*_, _/_, _%_, _≤_, _<_}
+use native.Mathlib.Nat.{zero-add, add-comm, mul-comm, div-add-mod'}
 use native.Mathlib.Numerals.{add-one}
 use native.Mathlib.Omega.{arith}
 use mathlib.Core.Path.{_≡_, refl, ap, sym, _∙_, subst}
 use mathlib.Core.Bool.{Bool, true, false}
-use mathlib.Core.Logic.{_⊎_, inl, inr, _≢_}
-use mathlib.Core.List.{List, [], _∷_, _++_, append-assoc, append-nil, map}
-use lib.ListN.{length, getD, take, drop, set, replicate, length-append, length-drop, length-set, length-map, length-replicate, getD-replicate, List·getD-eq-default, drop-of-length-le}
-use lib.Seq.{sets, length-sets, take-suc, take-all, length-take-le, getD-set-same, getD-set-other, getD-append-seam, getD-at, drop-at}
+use mathlib.Core.Logic.{_⊎_, inr}
+use mathlib.Core.List.{List, [], _∷_, _++_, append-assoc, map}
+use lib.ListN.{length, getD, take, drop, set, replicate, length-append, length-drop, length-set, length-replicate, getD-replicate, List·getD-eq-default, drop-of-length-le}
+use lib.Seq.{sets, take-suc, take-all, length-take-le, getD-set-same, getD-set-other, getD-at}
 use lib.Dec.{ltb, eqb}
 use borrow.Author.Tests.{ltb-true, ltb-false, eqb-true, eqb-false}
-use Rattle.mem.specs.Words.{words, Wrote}
-use Rattle.book.specs.Syntax.{Tree, Func, arity, Book, conArities, consOf, firstCon}
-use Rattle.book.specs.Reading.{readBook}
-use Rattle.book.specs.Record.{got}
+use Rattle.mem.specs.Words.{Wrote}
+use Rattle.book.specs.Syntax.{Func, arity, consOf, firstCon}
 use Rattle.book.specs.Steps.{typesOf}
-use Rattle.book.specs.Accepted.{FineTypes, FineTree, FineFunc, FineBook}
+use Rattle.book.specs.Accepted.{FineTypes, FineBook}
 use Rattle.book.proofs.Acceptance.{book-fine}
 use Rattle.heap.specs.Build.{upFrom}
 use Rattle.engine.specs.Code.{Instr, emit}
-use Rattle.engine.specs.Compile.{Positions, ofTree, ofFuncs, offsets, flat, compile}
-use Rattle.compiler.specs.Records.{bytes, treeRecs, funcsRecs, typesRecs, bookRecs}
-use Rattle.compiler.specs.Rows.{Rows, Lore, Keeps, Grown, row, loadBody, Progress, Emits}
-use Rattle.compiler.specs.Here.{Match, TreeHere, TreeDone, TypesKnown, TypesNoted, startAt, Started, FuncsHere, FuncsDone}
+use Rattle.engine.specs.Compile.{ofTree, ofFuncs, offsets, flat, compile}
+use Rattle.compiler.specs.Records.{bytes, treeRecs, funcsRecs, typesRecs}
+use Rattle.compiler.specs.Rows.{Rows, Keeps, Grown, row, loadBody, Progress, Emits}
+use Rattle.compiler.specs.Here.{Match, TreeHere, TreeDone, TypesNoted, startAt, Started, FuncsHere, FuncsDone}
 use Rattle.compiler.specs.declared.Ends.{Ends}
 use Rattle.compiler.proofs.Bytes.{bytes-append, book-bytes}
 use Rattle.compiler.proofs.Writing.{sets-append, progress-start, progress-step, progress-stop, progress-room}
-use Rattle.compiler.proofs.Loops.{row-at, progress-long}
+use Rattle.compiler.proofs.Loops.{row-at}
 use Rattle.compiler.proofs.Terms.{two-are, skipped, emit-append}
 use Rattle.compiler.proofs.Rowing.{apart, rows-grown, steps-at, steps-long}
 use Rattle.compiler.proofs.Splits.{first-fits}

@@ -1,21 +1,21 @@
 -- How long the code is: each record of the book brings its own bytes of it.
-use Prim.Native.Nat.{ℕ, zero, suc, _+_, _-_, _*_, _≤_, _<_}
-use native.Mathlib.Nat.{add-assoc, add-zero, zero-add}
+use Prim.Native.Nat.{ℕ, suc, _+_, _*_, _<_}
+use native.Mathlib.Nat.{zero-add}
 use native.Mathlib.Omega.{arith}
-use mathlib.Core.Path.{_≡_, refl, ap, sym, _∙_, subst}
-use mathlib.Core.List.{List, [], _∷_, _++_, append-assoc, append-nil, map}
+use mathlib.Core.Path.{_≡_, refl, ap, sym, _∙_}
+use mathlib.Core.List.{List, [], _∷_, _++_, map}
 use mathlib.Core.Bool.{Bool, true, false}
-use lib.ListN.{length, getD, take, drop, replicate, length-append, length-replicate}
+use lib.ListN.{length, getD, drop, length-append}
 use lib.Dec.{eqb}
-use Rattle.book.specs.Syntax.{Symbol, con, fun, Term, Terms, app, slot, fresh, done, arg, Right, Tree, Trees, split, rule, norule, stop, child, Func, arity, Book, conArities, consOf, firstCon}
+use Rattle.book.specs.Syntax.{con, fun, Term, Terms, app, slot, fresh, done, arg, Right, Tree, Trees, split, rule, norule, stop, child, Func, arity, Book, consOf, firstCon}
 use Rattle.book.specs.Accepted.{FineTree, FineTrees, FineFunc, FineBook}
-use Rattle.engine.specs.Code.{Instr, emit, encode, four, load, push, makeVar, makeTerm}
-use Rattle.engine.specs.Compile.{Positions, ofTerm, ofTerms, ofRight, ofRights, ofRule, ofTree, ofTrees, ofFuncs, ofInstances, below, flat, offsets, compile}
+use Rattle.engine.specs.Code.{Instr, emit, encode, makeTerm}
+use Rattle.engine.specs.Compile.{Positions, ofTerm, ofTerms, ofRights, ofTree, ofTrees, ofFuncs, ofInstances, below, flat, compile}
 use Rattle.heap.specs.Build.{upFrom}
-use Rattle.compiler.specs.Records.{Rcd, aCons, aSymbol, aSlot, aFresh, aRight, aRule, aSplit, aNone, aFunc, bytes, termRecs, termsRecs, rightRecs, rightsRecs, treeRecs, treesRecs, funcsRecs, typesRecs, bookRecs, armCost, cost, costs}
+use Rattle.compiler.specs.Records.{Rcd, aCons, aRule, termRecs, termsRecs, rightsRecs, treeRecs, treesRecs, funcsRecs, typesRecs, bookRecs, armCost, cost, costs}
 use Rattle.compiler.specs.Rows.{armCode, varsCode, loadBody}
 use Rattle.compiler.proofs.Loops.{vars-long, instance-long}
-use Rattle.compiler.proofs.Terms.{emit-append, vars-emit}
+use Rattle.compiler.proofs.Terms.{emit-append}
 use Rattle.compiler.proofs.Trees.{ending, rule-emit}
 use Rattle.compiler.proofs.Rights.{right-emit, no-rights}
 use Rattle.compiler.proofs.Splits.{arm-emit, load-long, split-long, four-long, trees-long}

@@ -11,4 +11,4 @@ pub mod Lengths
 pub mod Costs
 pub mod Funcs
 pub mod Filling
-pub mod Whole
+pub mod Wholes

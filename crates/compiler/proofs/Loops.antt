@@ -1,16 +1,13 @@
 -- One turn of each of the loops that write code, and the lengths of what they write.
-use Prim.Native.Nat.{ℕ, zero, suc, _+_, _-_, _*_, _≤_, _<_, min}
-use native.Mathlib.Nat.{add-assoc, add-zero, add-suc, suc-add}
+use Prim.Native.Nat.{ℕ, zero, suc, _+_, _-_, _*_, _≤_, _<_}
 use native.Mathlib.Numerals.{add-one}
 use native.Mathlib.Omega.{arith}
-use mathlib.Core.Path.{_≡_, refl, ap, sym, _∙_, subst}
-use mathlib.Core.Bool.{Bool, true, false}
+use mathlib.Core.Path.{_≡_, refl, ap, _∙_}
 use mathlib.Core.List.{List, [], _∷_, _++_, append-assoc, append-nil}
-use lib.ListN.{length, getD, take, drop, set, length-append, length-set, length-take, length-drop, length-replicate, replicate}
+use lib.ListN.{length, getD, take, drop, set, length-append, length-drop, length-replicate, replicate}
 use lib.Seq.{sets, length-sets, take-length, take-suc, getD-drop, getD-take, drop-cons, length-take-le}
-use lib.Dec.{eqb}
-use borrow.Author.Tests.{eq-eqb, ne-eqb, eqb-true, eqb-false}
-use Rattle.compiler.specs.Rows.{Emits, Progress, row, numCode, back, varsCode, armCode, argsAt}
+use borrow.Author.Tests.{eq-eqb, ne-eqb}
+use Rattle.compiler.specs.Rows.{Progress, row, numCode, back, varsCode, armCode, argsAt}
 use Rattle.compiler.proofs.Writing.{sets-append, progress-room}
 
 pub row-long : (rows : List ℕ) (i : ℕ) → length rows ≡ 2304 → i < 256 → length (row rows i) ≡ 9

@@ -1,22 +1,20 @@
 -- RIGHTs as they stand in the book, one after the other, and their code.
-use Prim.Native.Nat.{ℕ, zero, suc, _+_, _-_, _*_, _≤_, _<_}
-use native.Mathlib.Nat.{add-assoc}
+use Prim.Native.Nat.{ℕ, _+_, _-_, _*_, _≤_, _<_}
 use native.Mathlib.Omega.{arith}
-use mathlib.Core.Path.{_≡_, refl, ap, sym, _∙_, subst}
-use mathlib.Core.List.{List, [], _∷_, _++_, append-assoc, append-nil, map}
+use mathlib.Core.Path.{_≡_, refl, ap, sym, _∙_}
+use mathlib.Core.List.{List, [], _∷_, _++_, append-assoc, map}
 use lib.ListN.{length, getD, drop, length-append}
-use lib.Seq.{sets, length-sets}
-use Rattle.book.specs.Syntax.{Term, Right, conArities}
-use Rattle.book.specs.Accepted.{records, FineTerm, FineRight, FineRights}
+use Rattle.book.specs.Syntax.{Right, conArities}
+use Rattle.book.specs.Accepted.{records, FineRights}
 use Rattle.heap.specs.Build.{upFrom}
 use Rattle.engine.specs.Code.{emit, storeVar}
 use Rattle.engine.specs.Compile.{Positions, ofTerm, ofRight, ofRights}
-use Rattle.compiler.specs.Records.{bytes, termRecs, rightRecs, rightsRecs}
+use Rattle.compiler.specs.Records.{bytes, termRecs, rightsRecs}
 use Rattle.compiler.specs.Rows.{Emits, Progress, back, varsCode}
 use Rattle.compiler.specs.Here.{TermHere, RightsHere, RightsDone}
 use Rattle.compiler.specs.declared.Ends.{Ends}
 use Rattle.compiler.proofs.Bytes.{bytes-append}
-use Rattle.compiler.proofs.Writing.{emits-long, progress-start, progress-step, progress-stop, progress-room}
+use Rattle.compiler.proofs.Writing.{progress-start, progress-step, progress-stop, progress-room}
 use Rattle.compiler.proofs.Loops.{vars-long}
 use Rattle.compiler.proofs.Terms.{two-are, skipped, term-long, term-inside, term-code, vars-emit, emit-append}
 

@@ -1,20 +1,21 @@
 -- The rows of positions: one written over, the others kept; the positions under a SPLIT.
 use Prim.Native.Nat.{ℕ, zero, suc, _+_, _-_, _*_, _≤_, _<_}
-use native.Mathlib.Nat.{add-assoc, add-zero, add-suc, suc-add, zero-add}
+use native.Mathlib.Nat.{add-zero}
 use native.Mathlib.Numerals.{add-one}
 use native.Mathlib.Omega.{arith}
-use mathlib.Core.Path.{_≡_, refl, ap, sym, _∙_, subst}
+use mathlib.Core.Path.{_≡_, refl, ap, sym, _∙_}
 use mathlib.Core.Bool.{Bool, true, false}
-use mathlib.Core.Logic.{_⊎_, inl, inr, _≢_}
-use mathlib.Core.List.{List, [], _∷_, _++_, append-assoc, append-nil, map}
-use lib.ListN.{length, getD, take, drop, set, replicate, length-append, length-take, length-drop, length-set, length-replicate, length-map, getD-replicate, List·getD-append, List·getD-eq-default}
-use lib.Seq.{sets, length-sets, sets-eq, set-set, take-set-le, drop-set-lt, take-set-lt, set-append-seam, take-append-le, take-at, drop-at, take-all, length-take-le, take-length, take-suc, getD-drop, getD-take, getD-append-add, getD-set-same, getD-set-other}
+use mathlib.Core.Logic.{_⊎_, inl, inr}
+use mathlib.Core.List.{List, [], _∷_, _++_, append-assoc, map}
+use lib.ListN.{length, getD, take, drop, set, replicate, length-append, length-set, length-replicate, length-map, getD-replicate, List·getD-append, List·getD-eq-default}
+use lib.Seq.{sets, length-sets, sets-eq, set-set, take-set-le, drop-set-lt, take-set-lt, set-append-seam, take-append-le, take-at, drop-at, take-all, length-take-le, take-suc, getD-drop, getD-take, getD-append-add, getD-set-same, getD-set-other}
 use lib.Dec.{eqb, ltb}
 use borrow.Author.Tests.{eqb-true, eqb-false, ltb-true, ltb-false}
+use Rattle.mem.proofs.Laws.{drop-take}
 use Rattle.book.specs.Reading.{Slots, under}
 use Rattle.heap.specs.Build.{upFrom}
 use Rattle.engine.specs.Compile.{Positions, below}
-use Rattle.compiler.specs.Rows.{row, loadBody, Rows, Keeps, Stepped, Grown}
+use Rattle.compiler.specs.Rows.{row, loadBody, Rows, Stepped, Grown}
 use Rattle.compiler.specs.Here.{Match}
 use Rattle.compiler.proofs.Writing.{set-sets, sets-append}
 use Rattle.compiler.proofs.Loops.{row-long, row-at}
@@ -42,15 +43,6 @@ pub drop-sets : (k : ℕ) (l : List ℕ) (o : ℕ) (x : List ℕ) → o + length
 drop-sets k l o [] h = refl
 drop-sets k l o (a ∷ x) h = drop-sets k (set l o a) (suc o) x (omega arith) ∙ drop-set-lt k l o a (omega arith)
 
-part : (a n : ℕ) (l : List ℕ) → drop a (take (a + n) l) ≡ take n (drop a l)
-part zero n l = rw (zero-add n)
-part (suc a) n [] = rw (suc-add a n) (lib-nil n)
-  where
-    lib-nil : (n : ℕ) → _≡_ {A = List ℕ} [] (take n [])
-    lib-nil zero = refl
-    lib-nil (suc n) = refl
-part (suc a) n (x ∷ l) = rw (suc-add a n) (part a n l)
-
 module _ (l : List ℕ) (to : ℕ) (x : List ℕ) (long : length l ≡ 2304) (small : to < 256) (nine : length x ≡ 9) where
   row-same : row (sets l (9 * to) x) to ≡ x
   unfolding row
@@ -64,7 +56,7 @@ module _ (l : List ℕ) (to : ℕ) (x : List ℕ) (long : length l ≡ 2304) (sm
   row-other i h = go (ltb i to) refl
     where
       go : (b : Bool) → ltb i to ≡ b → take 9 (drop (9 * i) (sets l (9 * to) x)) ≡ take 9 (drop (9 * i) l)
-      go true t = let q = ltb-true i to t in sym (part (9 * i) 9 (sets l (9 * to) x)) ∙ rw (take-sets (9 * i + 9) l (9 * to) x (omega arith)) (part (9 * i) 9 l)
+      go true t = let q = ltb-true i to t in sym (drop-take (9 * i) 9 (sets l (9 * to) x)) ∙ rw (take-sets (9 * i + 9) l (9 * to) x (omega arith)) (drop-take (9 * i) 9 l)
       go false t = let q = ltb-false i to t in let r : to < i = apart to i q (λ z. h (sym z)) in rw (drop-sets (9 * i) l (9 * to) x (omega arith))
 
 -- a position with one step more, in a LOAD

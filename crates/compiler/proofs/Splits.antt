@@ -1,26 +1,24 @@
 -- A SPLIT as it stands in the book: its LOAD, BRANCH and GOs, its variable's arm and its children.
-use Prim.Native.Nat.{ℕ, zero, suc, _+_, _-_, _*_, _≤_, _<_}
+use Prim.Native.Nat.{ℕ, zero, suc, _+_, _*_, _≤_, _<_}
 use native.Mathlib.Nat.{add-assoc, zero-add}
 use native.Mathlib.Omega.{arith}
 use mathlib.Core.Path.{_≡_, refl, ap, sym, _∙_, subst}
-use mathlib.Core.List.{List, [], _∷_, _++_, append-assoc, append-nil, map}
+use mathlib.Core.List.{List, [], _∷_, _++_, append-assoc, map}
 use mathlib.Core.Bool.{Bool, true, false}
 use lib.Dec.{ltb}
 use borrow.Author.Tests.{ltb-true, ltb-false}
-use lib.ListN.{List·getD-eq-default, length, getD, take, drop, replicate, length-append, length-take, length-drop, List·getD-append}
+use lib.ListN.{List·getD-eq-default, length, getD, take, drop, replicate, length-append, length-drop, List·getD-append}
 use lib.Seq.{sets, length-sets, ext-getD, getD-take, getD-drop, getD-append-add, length-take-le}
-use Rattle.book.specs.Syntax.{con, Right, Tree, Trees, split, rule, norule, stop, child, join, conArities, consOf, firstCon}
-use Rattle.book.specs.Reading.{Slots, allFit}
-use Rattle.book.specs.Accepted.{FineTree, FineTrees, FineTypes}
-use Rattle.engine.specs.Code.{Instr, four, encode, emit, go, makeAnon, makeTerm, narrow, load, branch, fail}
+use Rattle.book.specs.Syntax.{con, Tree, Trees, split, rule, norule, stop, child, join, conArities, consOf, firstCon}
+use Rattle.book.specs.Accepted.{FineTree, FineTrees}
+use Rattle.engine.specs.Code.{Instr, four, encode, emit, go, makeAnon, makeTerm}
 use Rattle.engine.specs.Compile.{Positions, ofInstances, ofTree, ofTrees, offsets, flat}
 use Rattle.compiler.specs.Records.{bytes, treeRecs, treesRecs}
-use Rattle.compiler.specs.Rows.{Rows, Lore, row, loadBody, Fronts, Emits, armCode}
+use Rattle.compiler.specs.Rows.{Lore, row, loadBody, Fronts, Emits, armCode}
 use Rattle.compiler.specs.Here.{TreeHere, TreeDone, TreesHere, TreesDone}
 use Rattle.compiler.specs.declared.Ends.{Ends}
 use Rattle.compiler.proofs.Writing.{sets-append, sets-comm}
-use Rattle.compiler.proofs.Loops.{row-long, row-at}
-use Rattle.compiler.proofs.Terms.{head-is, two-are, skipped, emit-append}
+use Rattle.compiler.proofs.Terms.{head-is, two-are, emit-append}
 
 arity-at : (types : List (List ℕ)) (t j : ℕ) → j < length (consOf types t) → getD (conArities types) (firstCon types t + j) 0 ≡ getD (consOf types t) j 0
 arity-at [] t j p = absurd (omega arith)

@@ -1,19 +1,19 @@
 -- Terms as they stand in the book: by the count of terms still due, and their code, which is that of their records, the last one's first.
 use Prim.Native.Nat.{ℕ, zero, suc, _+_, _-_, _*_, _≤_, _<_}
-use native.Mathlib.Nat.{add-assoc, add-zero, add-suc, suc-add}
+use native.Mathlib.Nat.{suc-add}
 use native.Mathlib.Numerals.{add-one}
 use native.Mathlib.Omega.{arith}
-use mathlib.Core.Path.{_≡_, refl, ap, sym, _∙_, subst}
+use mathlib.Core.Path.{_≡_, refl, ap, sym, _∙_}
 use mathlib.Core.List.{List, [], _∷_, _++_, append-assoc, append-nil, map}
-use lib.ListN.{length, getD, take, drop, length-append, length-drop, replicate}
+use lib.ListN.{length, getD, drop, length-append, length-drop}
 use lib.Seq.{drop-cons, drop-drop, drop-append-seam}
 use Rattle.book.specs.Syntax.{Symbol, con, fun, Term, Terms, app, slot, fresh, done, arg, conArities}
 use Rattle.book.specs.Accepted.{count, records, recordsOf, FineTerm, FineTerms}
 use Rattle.heap.specs.Build.{upFrom}
-use Rattle.engine.specs.Code.{Instr, load, push, makeVar, makeTerm, storeVar, encode, emit}
+use Rattle.engine.specs.Code.{Instr, makeTerm, storeVar, encode, emit}
 use Rattle.engine.specs.Compile.{Positions, ofTerm, ofTerms}
 use Rattle.compiler.specs.Records.{aSymbol, bytesOf, bytes, termRecs, termsRecs}
-use Rattle.compiler.specs.Rows.{Rows, Lore, row, loadBody, numCode, back, varsCode, argsAt}
+use Rattle.compiler.specs.Rows.{Rows, numCode, back, varsCode, argsAt}
 use Rattle.compiler.specs.Here.{TermHere}
 use Rattle.compiler.proofs.Bytes.{bytes-append}
 use Rattle.compiler.proofs.Loops.{args-con, args-fun, args-none, code-con, code-fun, code-fresh, code-slot}

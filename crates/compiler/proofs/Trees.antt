@@ -1,13 +1,12 @@
 -- Trees as they stand in the book, and their code.
-use Prim.Native.Nat.{ℕ, zero, suc, _+_, _-_, _*_, _≤_, _<_}
-use native.Mathlib.Nat.{add-assoc}
+use Prim.Native.Nat.{ℕ, suc, _+_, _*_, _≤_, _<_}
 use native.Mathlib.Omega.{arith}
 use mathlib.Core.Path.{_≡_, refl, ap, sym, _∙_, subst}
-use mathlib.Core.Bool.{Bool, true, false, _&&_}
+use mathlib.Core.Bool.{true, false}
 use mathlib.Core.Logic.{_⊎_, inl, inr}
-use mathlib.Core.List.{List, [], _∷_, _++_, append-assoc, append-nil, map}
+use mathlib.Core.List.{List, [], _∷_, _++_, append-assoc, append-nil}
 use lib.ListN.{length, getD, take, drop, length-append}
-use lib.Seq.{sets, length-sets}
+use lib.Seq.{length-sets}
 use lib.Dec.{eqb}
 use borrow.Author.Tests.{eq-eqb, ne-eqb}
 use Rattle.book.specs.Syntax.{Right, Tree, split, rule, norule, conArities}
@@ -17,9 +16,9 @@ use Rattle.engine.specs.Compile.{Positions, ofRight, ofRights, ofRule, ofTree}
 use Rattle.compiler.specs.Records.{bytes, rightsRecs, treeRecs}
 use Rattle.compiler.specs.Here.{RightsHere, RightsDone, TreeHere, TreeDone}
 use Rattle.compiler.specs.declared.Ends.{Ends}
-use Rattle.compiler.proofs.Terms.{head-is, two-are, skipped, emit-append}
-use Rattle.compiler.specs.Rows.{row, loadBody, Rows, Keeps, Stepped, Grown, Fronts, Emits, armCode}
-use Rattle.compiler.proofs.Writing.{emits-long, emits-then, sets-append, sets-comm}
+use Rattle.compiler.proofs.Terms.{head-is, two-are, emit-append}
+use Rattle.compiler.specs.Rows.{row, Grown, Fronts, Emits, armCode}
+use Rattle.compiler.proofs.Writing.{emits-long, emits-then}
 use Rattle.compiler.proofs.Loops.{row-long, row-at}
 
 -- the length byte of a row

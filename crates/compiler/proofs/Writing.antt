@@ -1,14 +1,14 @@
 -- Bytes written from a place on: one store after another, one run of bytes after another, loops that write.
-use Prim.Native.Nat.{ℕ, zero, suc, _+_, _*_, _≤_, _<_}
-use native.Mathlib.Nat.{add-assoc, add-zero, add-suc, suc-add}
+use Prim.Native.Nat.{ℕ, suc, _+_, _≤_, _<_}
+use native.Mathlib.Nat.{add-zero, add-suc, suc-add}
 use native.Mathlib.Numerals.{add-one}
 use native.Mathlib.Omega.{arith}
 use mathlib.Core.Path.{_≡_, refl, ap, sym, _∙_, subst}
 use mathlib.Core.List.{List, [], _∷_, _++_, append-assoc, append-nil}
 use mathlib.Core.Logic.{_≢_}
-use lib.ListN.{length, getD, take, drop, set, length-append, length-set, replicate}
-use lib.Seq.{sets, length-sets, set-comm, take-suc, sets-eq}
-use Rattle.compiler.specs.Rows.{Emits, Progress, row}
+use lib.ListN.{length, set, length-append}
+use lib.Seq.{sets, length-sets, set-comm}
+use Rattle.compiler.specs.Rows.{Emits, Progress}
 
 pub sets-append : (l : List ℕ) (o : ℕ) (x y : List ℕ) → sets l o (x ++ y) ≡ sets (sets l o x) (o + length x) y
 sets-append l o [] y = rw (add-zero o)
@@ -67,9 +67,6 @@ module _ {l l′ : List ℕ} {o r : ℕ} {ahead whole : List ℕ} (p : Progress 
       rw (p .is) (omega (arith, p .next))
 
 -- stores by hand
-pub one : (l : List ℕ) (o a : ℕ) → Emits l (set l o a) o (o + 1) (a ∷ [])
-one l o a = record { is = refl; next = refl }
-
 pub two : (l : List ℕ) (o a b : ℕ) → Emits l (set (set l o a) (o + 1) b) o (o + 2) (a ∷ b ∷ [])
 two l o a b = record { is = rw (add-one o); next = refl }
 

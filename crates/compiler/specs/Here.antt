@@ -3,20 +3,20 @@
 -- A function is called with such a record (its `requires`), and answers for every such record (its `ensures`).
 -- Not here: the tables and the compiler's answer (Tables).
 -- Assumes nothing.
-use Prim.Native.Nat.{ℕ, suc, _+_, _*_, _≤_, _<_}
-use mathlib.Core.List.{List, [], _∷_, _++_, map}
+use Prim.Native.Nat.{ℕ, _+_, _*_, _≤_, _<_}
+use mathlib.Core.List.{List, [], _++_, map}
 use mathlib.Core.Path.{_≡_}
-use lib.ListN.{length, getD, drop, take}
+use lib.ListN.{length, getD, drop}
 use lib.Seq.{sets}
 use mathlib.Core.Bool.{true}
 use Rattle.book.specs.Record.{got}
 use Rattle.book.specs.Syntax.{Book, arity, Term, Right, Tree, Trees, conArities, consOf, firstCon}
 use Rattle.book.specs.Reading.{Slots, allFit, readBook}
 use Rattle.book.specs.Steps.{typesOf, Front}
-use Rattle.book.specs.Accepted.{FineTypes, records, FineTerm, FineRights, FineTree, FineTrees}
+use Rattle.book.specs.Accepted.{FineTypes, FineTerm, FineRights, FineTree, FineTrees}
 use Rattle.engine.specs.Code.{emit, go}
-use Rattle.engine.specs.Compile.{Positions, compile, ofRights, ofRule, ofTree, ofTrees, offsets, flat}
-use Rattle.compiler.specs.Records.{typesRecs, Rcd, aType, aCons, aFunc, aSplit, aRule, aRight, aSymbol, aSlot, aFresh, aNone, bytesOf, cost, bytes, termRecs, rightsRecs, treeRecs, treesRecs}
+use Rattle.engine.specs.Compile.{Positions, compile, ofRights, ofTree, ofTrees, offsets, flat}
+use Rattle.compiler.specs.Records.{typesRecs, Rcd, aType, aCons, aFunc, aSplit, aRule, aRight, aSymbol, aSlot, aFresh, aNone, bytesOf, bytes, termRecs, rightsRecs, treeRecs, treesRecs}
 use Rattle.compiler.specs.Rows.{Rows, Lore, row, loadBody}
 use Rattle.compiler.specs.declared.Ends.{Ends}
 
