@@ -1,5 +1,5 @@
--- What callers of the walk need: handles that can be walked, and what a search keeps.
--- Here, in order: roots, forwards and arguments; the roots of a computation that stands in the store; marks; what a search keeps; the call that is found.
+-- What callers of the walk need: handles that can be walked, and the call that is found.
+-- Here, in order: roots, forwards and arguments; the roots of a computation that stands in the store; marks; the call that is found.
 -- Assumes nothing.
 use Prim.Native.Nat.{ℕ, zero, suc, _<_}
 use native.Mathlib.Omega.{arith}
@@ -17,12 +17,11 @@ use Rattle.engine.specs.Machine.{Held}
 use Rattle.standing.specs.Stands.{Stands}
 use Rattle.standing.specs.Part.{rootsOf, Part, Handle}
 use Rattle.standing.proofs.Walks.{stands-part}
-use Rattle.store.specs.Regions.{Room, marksOf, graphOf}
+use Rattle.store.specs.Regions.{marksOf, graphOf}
 use Rattle.store.proofs.Laws.{length-graph}
-use Rattle.seek.specs.Walkable.{Walkable, Clear, Still}
-use Rattle.seek.specs.Lead.{firstIn, orElse}
+use Rattle.seek.specs.Walkable.{Walkable, Clear}
 use Rattle.seek.proofs.Ranks.{settles}
-use Rattle.seek.proofs.Finds.{firstIn-is}
+use Rattle.seek.proofs.Finds.{orElse, firstIn, firstIn-is}
 
 -- a handle of a part; and a root
 pub walkable-part : {g : Graph} {own roots : List ℕ} {k : ℕ} → Part g own roots → Handle g own roots k → Walkable g k
@@ -52,13 +51,6 @@ walkable-below L s k K = let a = walkable-in K in let b = a .0 in let c = a .1 i
 -- marks that are as before
 pub clear-kept : (L : ℕ) (s s′ : List ℕ) → marksOf L s′ ≡ marksOf L s → Clear L s → Clear L s′
 clear-kept L s s′ e c = e ∙ c
-
-module _ {L : ℕ} {s s′ : List ℕ} (T : Still L s s′) where
-  pub still-room : Room L s → Room L s′
-  still-room r = (r .0, rw (T .long) (r .1))
-
-  pub still-walkable : (k : ℕ) → Walkable (graphOf L s) k → Walkable (graphOf L s′) k
-  still-walkable k K = rw (T .graph) K
 
 -- the call that is found: it can be walked, no forward starts there, and it is a call
 pub record Calling (g : Graph) (n : ℕ) : Type 0 where
