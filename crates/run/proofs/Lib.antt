@@ -8,6 +8,7 @@ pub mod Nexts
 pub mod Values
 pub mod Demands
 pub mod Stepping
+pub mod Shortening
 pub mod Looping
 pub mod Opening
 pub mod Counting

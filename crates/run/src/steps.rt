@@ -156,7 +156,7 @@ fn end_it(st: State, failed: usize, misfits: usize) -> State
     }
 }
 
-// One step.
+// One step. Before the front takes its turn, the forwards from its stack's top are shortened.
 pub fn step(
     work: &mut [u8],
     code: &[u8],
@@ -179,6 +179,7 @@ pub fn step(
     let made = st.made;
     let head = st.head;
     let held = pool::front(work, l.nodes, l.pool, n, head);
+    forwards::shorten(work, l.nodes, held.top);
     let t = turns::take_turn(work, l.nodes, 20 * l.pool, code, made, held);
     let then = taken(l, st);
     let what = t.what;

@@ -1,0 +1,3 @@
+pub mod Cases
+pub mod Ways
+pub mod Moments
