@@ -1,5 +1,5 @@
 -- Where a search stopped is still there later: after a turn of its own computation, after turns of others.
--- Here, in order: a later moment, by what stays in the graph, and one after another; ways to what never changes; marks that stay closed; a place that stays; no marks at all.
+-- Here, in order: a later moment, by what stays in the graph, and one after another; ways to what never changes; marks that stay closed; a place that stays; more nodes made; no marks at all.
 -- Assumes nothing.
 use Prim.Native.Nat.{ℕ, zero, suc, _≤_, _<_}
 use native.Mathlib.Omega.{arith}
@@ -11,11 +11,11 @@ use lib.ListN.{length, getD, replicate, length-replicate, getD-replicate, List·
 use Rattle.book.specs.Syntax.{con, fun}
 use Rattle.heap.specs.Graph.{Graph, Node, cell, var, fwd, node, args}
 use Rattle.heap.specs.Place.{Leads, here, there, NotFwd}
-use Rattle.heap.proofs.Laws.Alike.{leads-end}
+use Rattle.heap.proofs.Laws.Alike.{leads-end, leads-keep}
 use Rattle.standing.specs.Part.{Part, Handle}
 use Rattle.store.specs.Regions.{marksOf}
 use Rattle.seek.specs.Walkable.{Clear}
-use Rattle.seek.specs.Path.{To, Shut, Closed, Open, Trail, Place, Resumes, CallAt, Fixed, Later}
+use Rattle.seek.specs.Path.{To, Shut, Closed, Open, Trail, lowest, upon, Place, Resumes, CallAt, Fixed, Later}
 use Rattle.seek.specs.Search.{Ground}
 use Rattle.seek.proofs.Trails.{Grown, trail-base, trail-lowest, trail-kept}
 
@@ -106,6 +106,24 @@ module _ {made : ℕ} {g : Graph} {marks : List ℕ} (C : Closed made g marks) w
 
       pub resumes-later : Resumes made g marks links r → Resumes made′ g′ marks′ links′ r
       resumes-later R m = ⊎-elim (λ S. inl (shut-later marks′ more r S)) (λ P. inr (place-later P)) (R (sym (marked r (ours (G .handle))) ∙ m))
+
+-- with more nodes made
+module _ {made made′ : ℕ} (more : made ≤ made′) where
+  to-wider : {g : Graph} {e k : ℕ} → To made g e k → To made′ g e k
+  to-wider {g} l = leads-keep g (λ x h. omega arith) (λ x h. refl) l
+
+  shut-wider : {g : Graph} {marks : List ℕ} {k : ℕ} → Shut made g marks k → Shut made′ g marks k
+  shut-wider S = record { end = S .end; leads = to-wider (S .leads); quiet = S .quiet }
+
+  pub closed-wider : {g : Graph} {marks : List ℕ} → Closed made g marks → Closed made′ g marks
+  closed-wider C = record { new = λ n h. C .new n (omega arith); name = C .name; under = λ n e k m. shut-wider (C .under n e k m) }
+
+  trail-wider : {g : Graph} {marks links : List ℕ} {r b n : ℕ} → Trail made g marks links r b n → Trail made′ g marks links r b n
+  trail-wider (lowest o l) = lowest o (to-wider l)
+  trail-wider (upon t a o k) = upon (trail-wider t) (record { next = a .next; inside = a .inside; before = λ j h. shut-wider (a .before j h); leads = to-wider (a .leads) }) o k
+
+  pub resumes-wider : (g : Graph) (marks links : List ℕ) (r : ℕ) → Resumes made g marks links r → Resumes made′ g marks links r
+  resumes-wider g marks links r R m = ⊎-elim (λ S. inl (shut-wider S)) (λ P. inr (record { base = P .base; top = P .top; linked = P .linked; trail = trail-wider (P .trail) })) (R m)
 
 -- no node is marked
 no-mark : (L : ℕ) (s : List ℕ) → Clear L s → (n : ℕ) → getD (marksOf L s) n 0 ≡ 0

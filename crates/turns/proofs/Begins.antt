@@ -68,7 +68,7 @@ module _ (L made : ℕ) (held : Held) (s : List ℕ) where
   c = heldIn L s held
 
   -- the value's handle is the first
-  value-is : Sized (held .roots) → c .value ≡ getD (held .roots .at) 0 0
+  pub value-is : Sized (held .roots) → c .value ≡ getD (held .roots .at) 0 0
   unfolding heldIn p.rootsOf
   value-is z = getD-take {A = ℕ} (held .roots .n) (held .roots .at) 0 0 (omega arith)
 
