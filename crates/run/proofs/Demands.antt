@@ -1,14 +1,14 @@
 -- What a step's parts ask, after the front's turn.
 -- Here, in order: how many alternatives; the turn; the state without its front; what follows.
 -- Assumes nothing.
-use Prim.Native.Nat.{ℕ, suc, _+_, _*_, _-_, _≤_, _<_}
+use Prim.Native.Nat.{ℕ, _+_, _*_, _-_, _≤_, _<_}
 use native.Mathlib.Omega.{arith}
-use mathlib.Core.Path.{_≡_, refl, ap, sym, _∙_, subst}
+use mathlib.Core.Path.{_≡_, ap, sym, _∙_, subst}
 use mathlib.Core.List.{List}
 use lib.ListN.{length}
 use Rattle.mem.specs.Words.{words}
 use Rattle.heap.specs.Store.{Store}
-use Rattle.engine.specs.Turn.{Turned, splits}
+use Rattle.engine.specs.Turn.{Turned}
 use Rattle.engine.specs.Compile.{compile}
 use Rattle.engine.specs.Machine as m
 use Rattle.engine.specs.Run as e
@@ -23,11 +23,10 @@ use Rattle.machine.specs.Tables.{codeBound}
 use Rattle.pool.specs.declared.Held.{Held}
 use Rattle.pool.specs.Ring.{Sized, placeOf, rootsOf, heldIn, RowGot}
 use Rattle.pool.proofs.Rings.{place-inside}
-use Rattle.alternatives.specs.Copies.{altsIn}
 use Rattle.writer.specs.Walk.{Reads}
 use Rattle.turns.specs.declared.What.the-variants.{Split, Wrote}
 use Rattle.turns.specs.declared.Turned as t
-use Rattle.turns.specs.Front.{Space, Front, valueIn, Searched, TurnTaken, tookOf, withTop}
+use Rattle.turns.specs.Front.{Space, Front, valueIn, Searched, TurnTaken, tookOf}
 use Rattle.turns.proofs.Few.{AtMost, machine-few}
 use Rattle.run.specs.declared.State.{State}
 use Rattle.run.specs.Between.{Bounded, Runs}

@@ -1,24 +1,21 @@
 -- The front of the pool and the others, for a moment of the definition that a state stands for; and what a turn of the front leaves of the others.
 -- Here, in order: a moment taken apart; the state's moment with its front; what the turn is given; the others after the turn.
 -- Assumes nothing.
-use Prim.Native.Nat.{ℕ, zero, suc, _+_, _*_, _-_, _≤_, _<_}
+use Prim.Native.Nat.{ℕ, _+_, _*_, _-_, _≤_, _<_}
 use native.Mathlib.Omega.{arith}
 use mathlib.Core.Path.{_≡_, refl, ap, sym, _∙_, subst}
 use mathlib.Core.Logic.{_⊎_, inl, inr}
-use mathlib.Core.List.{List, [], _∷_, _++_, List·Memᴰ, List·Memᴰ·not-nil, List·Memᴰ·head, List·Memᴰ·tail, List·Memᴰ·append-cases, Memᴰ·append-left, Memᴰ·append-right}
-use lib.ListN.{length, getD, take}
+use mathlib.Core.List.{List, [], _∷_, _++_, List·Memᴰ, List·Memᴰ·not-nil, List·Memᴰ·append-cases, Memᴰ·append-left, Memᴰ·append-right}
+use lib.ListN.{length, take}
 use lib.Seq.{take-take}
 use Rattle.book.specs.Syntax.{Book}
-use Rattle.book.specs.Accepted as A
 use Rattle.book.specs.Answers.{Counts}
-use Rattle.heap.specs.Graph.{node}
 use Rattle.heap.specs.Store.{Store}
-use Rattle.engine.specs.Compile.{compile}
 use Rattle.engine.specs.Machine as m
 use Rattle.engine.specs.Run as e
 use Rattle.agreement.proofs.Calls.{FineBook}
 use Rattle.agreement.proofs.Agree.{Sound}
-use Rattle.standing.specs.Shared.{StoreMoment, storeMoment}
+use Rattle.standing.specs.Shared.{storeMoment}
 use Rattle.standing.specs.Stands.{Stands, Ours, Pool, empty, join}
 use Rattle.standing.specs.Moments.{Room, Sounds, StandsFor, stands-for}
 use Rattle.standing.specs.Part.{stacksOf}
@@ -26,7 +23,7 @@ use Rattle.standing.proofs.Stands.{Elsewhere}
 use Rattle.standing.proofs.Queue.{pool-idle}
 use Rattle.standing.proofs.Room.{room-bound}
 use Rattle.standing.proofs.Stacks.{each-ours}
-use Rattle.store.specs.Regions.{graphOf, linksOf, restOf, storeOf}
+use Rattle.store.specs.Regions.{restOf, storeOf}
 use Rattle.store.proofs.Laws.{length-graph}
 use Rattle.pool.specs.declared.Held.{Held}
 use Rattle.pool.specs.Ring.{placeOf, heldIn, poolOf, RowGot}

@@ -1,7 +1,7 @@
 -- Searches go on where they stopped: after a turn of the front, for it, for the others and for alternatives; after a shortcut of forwards.
 -- Here, in order: the part of each computation of the pool; the same memory, but for what is no search's; a graph led otherwise; before a turn; after it: the others, the front, alternatives, by the state that follows.
 -- Assumes nothing.
-use Prim.Native.Nat.{ℕ, zero, suc, _+_, _*_, _-_, _≤_, _<_}
+use Prim.Native.Nat.{ℕ, suc, _+_, _*_, _-_, _≤_, _<_}
 use native.Mathlib.Omega.{arith}
 use native.Mathlib.Numerals.{add-one}
 use native.Mathlib.Decide.{decLt}
@@ -11,8 +11,8 @@ use mathlib.Core.Logic.{_⊎_, inl, inr}
 use mathlib.Core.List.{List, [], _∷_, _++_, List·Memᴰ, List·Memᴰ·head, List·Memᴰ·tail, List·Memᴰ·not-nil, List·Memᴰ·cases-cons, List·Memᴰ·append-cases, List·Memᴰ·eq-of-singleton, Memᴰ·append-left, Memᴰ·append-right}
 use lib.ListN.{getD}
 use lib.Dec.{leb}
-use Rattle.book.specs.Syntax.{Book, con}
-use Rattle.heap.specs.Graph.{Graph, Node, cell, var, node}
+use Rattle.book.specs.Syntax.{Book}
+use Rattle.heap.specs.Graph.{Graph, node}
 use Rattle.heap.specs.Place.{NotFwd}
 use Rattle.heap.specs.Alike.{Each}
 use Rattle.heap.specs.Store.{Store}
@@ -31,7 +31,7 @@ use Rattle.standing.proofs.Room.{room-bound}
 use Rattle.store.specs.Regions.{Memory, graphOf, marksOf, linksOf, storeOf}
 use Rattle.seek.specs.Path.{Closed, Resumes, ResumesIn, Fixed, Later}
 use Rattle.seek.specs.Search.{Ground}
-use Rattle.seek.proofs.Survives.{later-same, closed-later, resumes-later, closed-wider, resumes-wider, unmarked-resumes}
+use Rattle.seek.proofs.Survives.{closed-later, resumes-later, closed-wider, resumes-wider, unmarked-resumes}
 use Rattle.forwards.specs.Shortcut.{shortened, topOf, Shortened}
 use Rattle.forwards.proofs.Ways.{LedOtherwise, led-same, shortened-leads}
 use Rattle.pool.specs.declared.Held.{Held}
@@ -42,15 +42,14 @@ use Rattle.alternatives.specs.Copies.{altsIn}
 use Rattle.alternatives.proofs.Steps.{made-taken, nodes-are}
 use Rattle.turns.specs.declared.What.the-variants.{Split}
 use Rattle.turns.specs.declared.Turned as t
-use Rattle.turns.specs.Front.{TurnTaken, tookOf, valueIn, withTop}
-use Rattle.turns.specs.Front as f
+use Rattle.turns.specs.Front.{TurnTaken, tookOf, valueIn, Searched, withTop}
 use Rattle.turns.proofs.Grounds.{ours-made, stands-ground}
 use Rattle.turns.proofs.Begins.{value-is}
 use Rattle.run.specs.declared.State.{State}
 use Rattle.run.specs.declared.Stepped.{Stepped}
-use Rattle.run.specs.Between.{Bounded, Searched, SearchedIn, Runs}
-use Rattle.run.specs.Arms.{afterTurn, afterEnd, afterWent, afterSplit, afterValue, WentOn, Spread}
-use Rattle.run.proofs.Fronts.{Here, rest, H, front}
+use Rattle.run.specs.Between.{Bounded, AllSearched, SearchedIn, Runs}
+use Rattle.run.specs.Arms.{afterTurn, afterEnd, afterSplit, afterValue, WentOn, Spread}
+use Rattle.run.proofs.Fronts.{rest, H}
 use Rattle.run.proofs.Nexts.{Z, took, others-stay}
 use Rattle.run.proofs.Values.{pool-same}
 
@@ -66,7 +65,7 @@ pool-ground book B L made s (join {c = d} {cs = cs} {own = own} S p a) (q, ss) c
     go (inr u) ih = let r = ih u in (r .0, r .1, λ x v. Memᴰ·append-right (S .world .owned) (r .2 x v))
 
 -- the same graph, marks and links, and as many nodes made or more
-pub searched-more : (L made made′ : ℕ) (cs : List m.Held) (s s′ : List ℕ) → made ≤ made′ → graphOf L s′ ≡ graphOf L s → marksOf L s′ ≡ marksOf L s → linksOf L s′ ≡ linksOf L s → Searched L made cs s → Searched L made′ cs s′
+pub searched-more : (L made made′ : ℕ) (cs : List m.Held) (s s′ : List ℕ) → made ≤ made′ → graphOf L s′ ≡ graphOf L s → marksOf L s′ ≡ marksOf L s → linksOf L s′ ≡ linksOf L s → AllSearched L made cs s → AllSearched L made′ cs s′
 searched-more L made made′ cs s s′ h g a k S = record {
   closed = subst (λ (x : Graph). Closed made′ x (marksOf L s′)) (sym g) (subst (Closed made′ (graphOf L s)) (sym a) (closed-wider h (S .closed)));
   resumes = λ c w. subst (λ (x : Graph). Resumes made′ x (marksOf L s′) (linksOf L s′) (c .value)) (sym g) (subst (λ (x : List ℕ). Resumes made′ (graphOf L s) x (linksOf L s′) (c .value)) (sym a) (subst (λ (x : List ℕ). Resumes made′ (graphOf L s) (marksOf L s) x (c .value)) (sym k) (resumes-wider h (graphOf L s) (marksOf L s) (linksOf L s) (c .value) (S .resumes c w))));
@@ -113,11 +112,11 @@ module _ (l : e.Limits) (n : ℕ) (code : List ℕ) (st : State) (s results : Li
   sized : Sized (held .roots)
   sized = let h = b .handles in let k = G .count in (omega arith, omega arith)
 
-  before : Searched L (st .made) (heldIn L s held ∷ cs₀) s
-  before = let h = b .head in let w = b .waiting in subst (λ (cs : List m.Held). Searched L (st .made) cs s) (front-is L (l .pool) n (st .head) (st .waiting) s held h some w G) (R .searched)
+  before : AllSearched L (st .made) (heldIn L s held ∷ cs₀) s
+  before = let h = b .head in let w = b .waiting in subst (λ (cs : List m.Held). AllSearched L (st .made) cs s) (front-is L (l .pool) n (st .head) (st .waiting) s held h some w G) (R .searched)
 
   -- what the turn asks
-  pub front-searched : f.Searched L (st .made) (valueIn held) s
+  pub front-searched : Searched L (st .made) (valueIn held) s
   front-searched = record { closed = before .closed; resumes = subst (ResumesIn L (st .made) s) (value-is L (st .made) held s sized) (before .resumes (heldIn L s held) (List·Memᴰ·head refl)) }
 
   -- after a shortcut of the front's forwards
@@ -134,7 +133,7 @@ module _ (l : e.Limits) (n : ℕ) (code : List ℕ) (st : State) (s results : Li
         let r = pool-ground (R .book) (R .fine) L (st .made) s (join (h .stands) (h .others) (h .apart)) (h .sound, h .sounds) c w in
         (r .0, r .1)
 
-    pub short-searched : Searched L (st .made) (heldIn L s held ∷ cs₀) s₁
+    pub short-searched : AllSearched L (st .made) (heldIn L s held ∷ cs₀) s₁
     short-searched = record {
       closed = closed-later (before .closed) later₁ (marksOf L s₁) marks₁;
       resumes = λ c w. resumes-later (before .closed) later₁ (whole c w .1) (linksOf L s) (marksOf L s₁) (linksOf L s₁) (λ x q. marks₁ x ∙ q) (λ x q. marks₁ x) (λ x q o. ap (λ (m : Memory). getD (m .links) x 0) (D .is)) (before .resumes c w);
@@ -152,21 +151,21 @@ module _ (l : e.Limits) (n : ℕ) (code : List ℕ) (st : State) (s results : Li
         (λ x u v. z .links x (o .1 .below x u) (λ q. h .apart x q (o .2 x u)))
         (before .resumes c (List·Memᴰ·tail w))
 
-    pub rest-searched : Searched L (st .made) cs₀ s₁
+    pub rest-searched : AllSearched L (st .made) cs₀ s₁
     rest-searched = record { closed = X .searched .closed; resumes = others }
 
     -- with more computations behind the others
-    joined : (ds : List m.Held) → ((c : m.Held) → List·Memᴰ c ds → ResumesIn L (st .made) s₁ (c .value)) → Searched L (st .made) (cs₀ ++ ds) s₁
+    joined : (ds : List m.Held) → ((c : m.Held) → List·Memᴰ c ds → ResumesIn L (st .made) s₁ (c .value)) → AllSearched L (st .made) (cs₀ ++ ds) s₁
     joined ds f = record { closed = X .searched .closed; resumes = λ c w. go c (List·Memᴰ·append-cases cs₀ w) }
       where
         go : (c : m.Held) → List·Memᴰ c cs₀ ⊎ List·Memᴰ c ds → ResumesIn L (st .made) s₁ (c .value)
         go c (inl w) = others c w
         go c (inr w) = f c w
 
-    pub went-searched : (top : ℕ) → Searched L (st .made) (cs₀ ++ heldIn L s₁ (withTop held top) ∷ []) s₁
+    pub went-searched : (top : ℕ) → AllSearched L (st .made) (cs₀ ++ heldIn L s₁ (withTop held top) ∷ []) s₁
     went-searched top = joined (heldIn L s₁ (withTop held top) ∷ []) (λ c w. subst (λ (y : m.Held). ResumesIn L (st .made) s₁ (y .value)) (sym (List·Memᴰ·eq-of-singleton w)) (subst (ResumesIn L (st .made) s₁) (sym (value-is L (st .made) (withTop held top) s₁ sized)) (X .searched .resumes)))
 
-    pub split-searched : (count : ℕ) → r .what ≡ Split count → Searched L (st .made) (cs₀ ++ altsIn L (20 * l .pool) (held .roots .n) count s₁) s₁
+    pub split-searched : (count : ℕ) → r .what ≡ Split count → AllSearched L (st .made) (cs₀ ++ altsIn L (20 * l .pool) (held .roots .n) count s₁) s₁
     unfolding tookOf
     split-searched count w = joined (altsIn L (20 * l .pool) (held .roots .n) count s₁) (λ c u. unmarked-resumes (st .made) (graphOf L s₁) (marksOf L s₁) (linksOf L s₁) (c .value) (X .searched .closed .new (c .value) (new c u)))
       where
@@ -190,19 +189,19 @@ module _ (l : e.Limits) (n : ℕ) (code : List ℕ) (st : State) (s results : Li
     after-went s₂ st₂ W =
         let p : st .waiting - 1 + 1 ≡ suc (st .waiting - 1) = add-one (st .waiting - 1) in
         let q : poolOf L (l .pool) n (placeOf (l .pool) (st .head) 1) (st .waiting - 1 + 1) s₂ ≡ cs₀ ++ heldIn L s₁ (withTop held (r .top)) ∷ [] = rw p (W .pool ∙ ap (λ (cs : List m.Held). cs ++ heldIn L s₁ (withTop held (r .top)) ∷ []) others-are) in
-        subst (λ (x : State). SearchedIn l n x s₂) (sym (W .is)) (subst (λ (cs : List m.Held). Searched L (r .made) cs s₂) (sym q) (searched-more L (st .made) (r .made) (cs₀ ++ heldIn L s₁ (withTop held (r .top)) ∷ []) s₁ s₂ (X .more .0) (W .only .graph) (W .only .marks) (W .only .links) (went-searched (r .top))))
+        subst (λ (x : State). SearchedIn l n x s₂) (sym (W .is)) (subst (λ (cs : List m.Held). AllSearched L (r .made) cs s₂) (sym q) (searched-more L (st .made) (r .made) (cs₀ ++ heldIn L s₁ (withTop held (r .top)) ∷ []) s₁ s₂ (X .more .0) (W .only .graph) (W .only .marks) (W .only .links) (went-searched (r .top))))
 
     pub after-split : (count : ℕ) → r .what ≡ Split count → (s₂ : List ℕ) (g : Stepped) → Spread l n (afterTurn (l .pool) st) count (r .made) s₁ s₂ g → leb (st .waiting - 1 + count) (l .pool) ≡ true → SearchedIn l n (afterSplit (afterTurn (l .pool) st) count (r .made)) s₂
     after-split count w s₂ g W a =
         let as₀ : List m.Held = altsIn L (20 * l .pool) (held .roots .n) count s₁ in
         let q : poolOf L (l .pool) n (placeOf (l .pool) (st .head) 1) (st .waiting - 1 + count) s₂ ≡ cs₀ ++ as₀ = W .pool a ∙ ap (λ (cs : List m.Held). cs ++ altsIn L (20 * l .pool) n count s₁) others-are ∙ ap (λ (k : ℕ). cs₀ ++ altsIn L (20 * l .pool) k count s₁) (sym (G .count)) in
-        subst (λ (cs : List m.Held). Searched L (r .made) cs s₂) (sym q) (searched-more L (st .made) (r .made) (cs₀ ++ as₀) s₁ s₂ (X .more .0) (W .only .graph) (W .only .marks) (W .only .links) (split-searched count w))
+        subst (λ (cs : List m.Held). AllSearched L (r .made) cs s₂) (sym q) (searched-more L (st .made) (r .made) (cs₀ ++ as₀) s₁ s₂ (X .more .0) (W .only .graph) (W .only .marks) (W .only .links) (split-searched count w))
 
     pub after-end : (f g : ℕ) → SearchedIn l n (afterEnd (afterTurn (l .pool) st) f g) s₁
-    after-end f g = subst (λ (cs : List m.Held). Searched L (st .made) cs s₁) (sym others-are) rest-searched
+    after-end f g = subst (λ (cs : List m.Held). AllSearched L (st .made) cs s₁) (sym others-are) rest-searched
 
     pub after-value : (w : ℕ) (s₂ : List ℕ) → Kept L s₁ s₂ → SearchedIn l n (afterValue (afterTurn (l .pool) st) w) s₂
     after-value w s₂ K =
         let h = b .head in let i = b .waiting in let j = b .handles in
         let q : poolOf L (l .pool) n (placeOf (l .pool) (st .head) 1) (st .waiting - 1) s₂ ≡ cs₀ = pool-same L (l .pool) n (placeOf (l .pool) (st .head) 1) (st .waiting - 1) s₁ s₂ (j .1) (place-inside (l .pool) (st .head) 1 h (omega arith)) (omega arith) (K .rest) (K .links) ∙ others-are in
-        subst (λ (cs : List m.Held). Searched L (st .made) cs s₂) (sym q) (searched-more L (st .made) (st .made) cs₀ s₁ s₂ (omega arith) (K .graph) (K .marks) (K .links) rest-searched)
+        subst (λ (cs : List m.Held). AllSearched L (st .made) cs s₂) (sym q) (searched-more L (st .made) (st .made) cs₀ s₁ s₂ (omega arith) (K .graph) (K .marks) (K .links) rest-searched)

@@ -21,7 +21,7 @@ use Rattle.pool.specs.Ring.{chain, stackOf, rootsAt, heldIn, rowOf, placeOf, po
 use Rattle.pool.proofs.Rings.{front-is, pool-kept}
 use Rattle.run.specs.declared.State.{State}
 use Rattle.run.specs.declared.Stepped.{Stepped}
-use Rattle.run.specs.Between.{countsIn, momentOf, Bounded, Searched, SearchedIn, Runs, StepTaken}
+use Rattle.run.specs.Between.{countsIn, momentOf, Bounded, AllSearched, SearchedIn, Runs, StepTaken}
 use Rattle.run.proofs.Fronts.{rest, moment-front}
 use Rattle.run.proofs.Nexts.{moment-is}
 use Rattle.run.proofs.Searches.{short-searched}
@@ -84,7 +84,7 @@ module _ (l : e.Limits) (n : ℕ) (code : List ℕ) (st : State) (s results : Li
   unfolding heldIn
   searched₁ R =
       let h = b .head in let w = b .waiting in let f = b .handles in
-      subst (λ (cs : List m.Held). Searched (l .nodes) (st .made) cs s₁)
+      subst (λ (cs : List m.Held). AllSearched (l .nodes) (st .made) cs s₁)
       (sym (front-is (l .nodes) (l .pool) n (st .head) (st .waiting) s held h some w G) ∙ sym (pool-kept (l .nodes) (l .pool) n (st .head) (st .waiting) s s₁ (f .1) h w (ap (take (20 * l .pool)) rest₁) (λ x u. ap (λ (k : List ℕ). getD k x 0) links₁)))
       (short-searched l n code st s results b some held G R s₁ D (top-of (l .nodes) s (held .top)))
 

@@ -3,13 +3,12 @@
 -- Assumes nothing.
 use Prim.Native.Nat.{ℕ, suc, _+_, _*_, _-_, _≤_, _<_}
 use native.Mathlib.Omega.{arith}
-use native.Mathlib.Numerals.{add-one}
 use mathlib.Core.Path.{_≡_, refl, ap, sym, _∙_, subst}
 use mathlib.Core.Bool.{Bool, true, false}
 use mathlib.Core.List.{List, _++_, append-assoc}
 use lib.ListN.{length, take, drop, length-append, length-drop}
 use lib.Dec.{leb}
-use lib.Seq.{take-at, drop-at, take-take, length-take-le}
+use lib.Seq.{take-at, drop-at, length-take-le}
 use borrow.Author.Tests.{leb-true}
 use Rattle.mem.specs.Words.{words}
 use Rattle.heap.specs.Graph.{writeEach}
@@ -17,13 +16,12 @@ use Rattle.engine.specs.Compile.{compile}
 use Rattle.engine.specs.Machine as m
 use Rattle.engine.specs.Run as e
 use Rattle.standing.specs.Moments.{StandsNext}
-use Rattle.store.specs.Regions.{AllRoom, graphOf, restOf}
+use Rattle.store.specs.Regions.{graphOf, restOf}
 use Rattle.copier.specs.Listed.{Clean}
 use Rattle.machine.specs.Tables.{Has}
 use Rattle.pool.specs.declared.Held.{Held}
 use Rattle.pool.specs.Ring.{rootsOf, placeOf, RowGot, RestOnly}
 use Rattle.pool.proofs.Rings.{place-inside}
-use Rattle.writer.specs.Walk.{Kept}
 use Rattle.turns.specs.declared.What.the-variants.{Went, Split, Wrote, Failed, Misfit, NoneLeft, Lost}
 use Rattle.turns.specs.declared.Turned as t
 use Rattle.turns.specs.Front.{Stays, TurnTaken, withTop}

@@ -59,12 +59,12 @@ pub record Bounded (l : e.Limits) (n : ℕ) (st : State) (s results : List ℕ) 
   pub written : st .written ≤ l .results
 
 -- what searches left between turns: the marks of all nodes, and for each computation where the search from its value goes on
-pub record Searched (L made : ℕ) (cs : List m.Held) (s : List ℕ) : Type 0 where
+pub record AllSearched (L made : ℕ) (cs : List m.Held) (s : List ℕ) : Type 0 where
   pub closed : ClosedIn L made s
   pub resumes : (c : m.Held) → List·Memᴰ c cs → ResumesIn L made s (c .value)
 
 abbrev pub SearchedIn : e.Limits → ℕ → State → List ℕ → Type 0
-SearchedIn l n st s = Searched (l .nodes) (st .made) (poolOf (l .nodes) (l .pool) n (st .head) (st .waiting) s) s
+SearchedIn l n st s = AllSearched (l .nodes) (st .made) (poolOf (l .nodes) (l .pool) n (st .head) (st .waiting) s) s
 
 -- The state stands for a moment of the definition's run of an accepted book, whose code and tables are there; searches can go on where they stopped, and no node has a place.
 pub record Runs (l : e.Limits) (n : ℕ) (code : List ℕ) (st : State) (s results : List ℕ) : Type 0 where

@@ -7,31 +7,30 @@ use native.Mathlib.Numerals.{add-one}
 use native.Mathlib.Nat.{mul-le-mul}
 use mathlib.Core.Path.{_≡_, refl, sym, ap, _∙_, subst}
 use mathlib.Core.Logic.{_⊎_, inl, inr, ⊎-elim, _≢_}
-use mathlib.Core.Option.{Option, none, some}
+use mathlib.Core.Option.{none, some}
 use mathlib.Core.List.{List, List·Memᴰ}
 use lib.ListN.{length, getD, set}
 use lib.Seq.{getD-set-same, getD-set-other}
 use Rattle.mem.specs.Words.{words}
-use Rattle.book.specs.Syntax.{con, fun}
-use Rattle.heap.specs.Graph.{Graph, Node, cell, var, fwd, node, follow, look, args, firstCall}
+use Rattle.book.specs.Syntax.{con}
+use Rattle.heap.specs.Graph.{Graph, cell, var, node, follow, look, args, firstCall}
 use Rattle.heap.specs.Place.{here, there}
 use Rattle.heap.proofs.Laws.Alike.{leads-follow}
 use Rattle.store.specs.declared.NodeNo.{NodeNo}
 use Rattle.store.specs.Regions.{graphOf, marksOf, linksOf, Memory}
 use Rattle.store.proofs.Laws.{length-graph}
 use Rattle.store.proofs.Writes.{length-marks, length-links}
-use Rattle.seek.specs.Walkable.{Walkable, foundOf}
-use Rattle.seek.specs.Path.{To, Shut, Closed, Open, Trail, lowest, Place, Resumes}
-use Rattle.seek.specs.Search.{IsQuiet, IsCell, IsCall, Up, Down, Hits, Finished, Came, Ground, Leaves, Walks, Reached, Went, TopAt, Held, Resumable, Sought, SoughtFrom}
+use Rattle.seek.specs.Walkable.{Walkable}
+use Rattle.seek.specs.Path.{To, Shut, Closed, Open, Trail, lowest, Place}
+use Rattle.seek.specs.Search.{IsQuiet, IsCell, IsCall, Up, Down, Hits, Finished, Came, Leaves, Walks, Reached, Went, TopAt, Held, Resumable, Sought}
 use Rattle.seek.specs.declared.Turn.{Turn}
 use Rattle.seek.specs.declared.Turn.the-variants.{On, Hit, Over}
-use Rattle.seek.specs.declared.Find.{Find}
 use Rattle.seek.specs.declared.Find.the-variants.{At, Nothing}
 use Rattle.seek.specs.declared.Walked.{Walked}
 use Rattle.seek.proofs.Finds.{find-fun}
 use Rattle.seek.proofs.Ranks.{height}
-use Rattle.seek.proofs.Shuts.{to-made, to-look, quiet-shut, shut-none, shut-more, word-at}
-use Rattle.seek.proofs.Trails.{Grown, trail-base, trail-lowest, trail-kept}
+use Rattle.seek.proofs.Shuts.{to-made, quiet-shut, shut-none, shut-more, word-at}
+use Rattle.seek.proofs.Trails.{trail-base, trail-lowest, trail-kept}
 use Rattle.seek.proofs.Steps.{Going, going-up, going-down}
 
 -- a turn of the loop

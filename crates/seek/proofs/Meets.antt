@@ -1,7 +1,7 @@
 -- What a handle leads to, and what a node's arguments lead to, by what the code reads.
 -- Here, in order: a handle; the arguments, one by one; a turn.
 -- Assumes nothing.
-use Prim.Native.Nat.{ℕ, suc, _+_, _≤_, _<_}
+use Prim.Native.Nat.{ℕ, suc, _+_, _<_}
 use native.Mathlib.Omega.{arith}
 use native.Mathlib.Decide.{decLt}
 use mathlib.Core.Path.{_≡_, refl, sym, ap, _∙_, subst}
@@ -18,7 +18,7 @@ use Rattle.store.specs.Rows.{seen}
 use Rattle.store.proofs.Laws.{seen-var, seen-con, seen-call, seen-fwd}
 use Rattle.seek.specs.Walkable.{Walkable}
 use Rattle.store.specs.Regions.{graphOf, marksOf, linksOf, Did, setMark, setLink}
-use Rattle.seek.specs.Search.{IsQuiet, IsCell, IsCall, First, Met, AllQuiet, Scanned, Under, Hits, Up, Finished, Down}
+use Rattle.seek.specs.Search.{IsQuiet, IsCell, IsCall, First, Met, Scanned, Under, Hits, Up, Finished, Down}
 use Rattle.seek.proofs.Walkables.{walkable-below}
 use types.Run.{OneOf}
 use denote.Enum.Declared.{tagOf}

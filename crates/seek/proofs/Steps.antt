@@ -6,24 +6,23 @@ use native.Mathlib.Omega.{arith}
 use native.Mathlib.Nat.{suc-mul, mul-le-mul-right}
 use native.Mathlib.Numerals.{add-one}
 use mathlib.Core.Path.{_≡_, refl, sym, ap, _∙_, subst}
-use mathlib.Core.Logic.{_⊎_, inl, inr, _≢_}
-use mathlib.Core.Option.{Option, none, some}
+use mathlib.Core.Logic.{inr, _≢_}
+use mathlib.Core.Option.{none, some}
 use mathlib.Core.List.{List, [], _∷_, List·Memᴰ}
 use lib.ListN.{length, getD, set}
 use lib.Seq.{getD-set-same, getD-set-other}
 use Rattle.mem.specs.Words.{words}
 use Rattle.book.specs.Syntax.{con}
-use Rattle.heap.specs.Graph.{Graph, cell, node, follow, look, args, firstCall}
+use Rattle.heap.specs.Graph.{Graph, cell, node, look, args, firstCall}
 use Rattle.heap.proofs.Laws.Reach.{indexOf-mem}
-use Rattle.standing.specs.Part.{Part, Handle}
-use Rattle.store.specs.Regions.{graphOf, marksOf, linksOf, placesOf, restOf, Memory, memory, Did, setMark, setLink}
+use Rattle.standing.specs.Part.{Handle}
+use Rattle.store.specs.Regions.{graphOf, marksOf, linksOf, Memory}
 use Rattle.store.proofs.Laws.{length-graph}
 use Rattle.store.proofs.Writes.{length-marks, length-links}
-use Rattle.seek.specs.Walkable.{Walkable}
-use Rattle.seek.specs.Path.{To, Shut, Closed, Open, Above, Trail, lowest, upon}
-use Rattle.seek.specs.Search.{IsQuiet, IsCell, IsCall, First, AllQuiet, Fit, Up, Finished, Down, Hits, Leaves, Walks}
+use Rattle.seek.specs.Path.{To, Shut, Closed, Open, Above, Trail, upon}
+use Rattle.seek.specs.Search.{IsQuiet, IsCell, IsCall, First, AllQuiet, Fit, Up, Finished, Hits, Leaves, Walks}
 use Rattle.seek.proofs.Ranks.{height, height-low}
-use Rattle.seek.proofs.Finds.{all, found-in, find-fun}
+use Rattle.seek.proofs.Finds.{found-in, find-fun}
 use Rattle.seek.proofs.Shuts.{to-made, quiet-shut, shut-none, shut-more, still-finished, closed-finish}
 use Rattle.seek.proofs.Trails.{Grown, Node, kid-handle, above-lower, above-node, trail-open, trail-base, trail-node, trail-linked, trail-below, hit-down, trail-kept}
 

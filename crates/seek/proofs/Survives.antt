@@ -1,18 +1,18 @@
 -- Where a search stopped is still there later: after a turn of its own computation, after turns of others.
--- Here, in order: a later moment, by what stays in the graph, and one after another; ways to what never changes; marks that stay closed; a place that stays; more nodes made; no marks at all.
+-- Here, in order: a later moment, by what stays in the graph; marks that stay closed; a place that stays; more nodes made; no marks at all.
 -- Assumes nothing.
-use Prim.Native.Nat.{ℕ, zero, suc, _≤_, _<_}
+use Prim.Native.Nat.{ℕ, _≤_, _<_}
 use native.Mathlib.Omega.{arith}
 use native.Mathlib.Decide.{decLt}
-use mathlib.Core.Path.{_≡_, refl, sym, ap, _∙_, subst}
-use mathlib.Core.Logic.{_⊎_, inl, inr, ⊎-elim, _≢_}
+use mathlib.Core.Path.{_≡_, refl, sym, _∙_, subst}
+use mathlib.Core.Logic.{_⊎_, inl, inr, ⊎-elim}
 use mathlib.Core.List.{List, List·Memᴰ}
 use lib.ListN.{length, getD, replicate, length-replicate, getD-replicate, List·getD-eq-default}
-use Rattle.book.specs.Syntax.{con, fun}
+use Rattle.book.specs.Syntax.{con}
 use Rattle.heap.specs.Graph.{Graph, Node, cell, var, fwd, node, args}
-use Rattle.heap.specs.Place.{Leads, here, there, NotFwd}
+use Rattle.heap.specs.Place.{here, there, NotFwd}
 use Rattle.heap.proofs.Laws.Alike.{leads-end, leads-keep}
-use Rattle.standing.specs.Part.{Part, Handle}
+use Rattle.standing.specs.Part.{Handle}
 use Rattle.store.specs.Regions.{marksOf}
 use Rattle.seek.specs.Walkable.{Clear}
 use Rattle.seek.specs.Path.{To, Shut, Closed, Open, Trail, lowest, upon, Place, Resumes, CallAt, Fixed, Later}
@@ -38,16 +38,6 @@ module _ {made made′ : ℕ} (g g′ : Graph) (more : made ≤ made′) (stay :
 
 pub later-same : (made : ℕ) (g : Graph) → Later made g made g
 later-same made g = record { more = omega arith; rows = λ x h F. refl; leads = λ e k F l. l }
-
-pub later-then : {a b c : ℕ} {f g h : Graph} → Later a f b g → Later b g c h → Later a f c h
-later-then {a} {b} {c} {f} {g} {h} P Q = record {
-  more = (let i = P .more in let j = Q .more in omega arith);
-  rows = λ x l F. (let i = P .more in Q .rows x (omega arith) (fixed x l F) ∙ P .rows x l F);
-  leads = λ e k F l. Q .leads e k (fixed e (leads-end (λ x. x < a) f e l .0) F) (P .leads e k F l);
-}
-  where
-    fixed : (x : ℕ) → x < a → Fixed f x → Fixed g x
-    fixed x l F = subst (λ (n : Node). (n ≡ var) ⊎ ((y : ℕ) × (hs : List ℕ) × (n ≡ cell (con y) hs))) (sym (P .rows x l F)) F
 
 -- a finished node is made, and never changes
 module _ {made : ℕ} {g : Graph} {marks : List ℕ} (C : Closed made g marks) where

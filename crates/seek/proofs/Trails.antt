@@ -1,21 +1,21 @@
 -- Paths in a part of the graph.
 -- Here, in order: a later moment; a path's nodes are handles, each lower than the one below it; a path that stays; what is found at its top is found from the root.
 -- Assumes nothing.
-use Prim.Native.Nat.{ℕ, zero, suc, _≤_, _<_}
+use Prim.Native.Nat.{ℕ, suc, _≤_, _<_}
 use native.Mathlib.Omega.{arith}
 use mathlib.Core.Path.{_≡_, refl, sym, ap, _∙_, subst}
-use mathlib.Core.Logic.{_⊎_, inl, inr, _≢_}
-use mathlib.Core.Option.{Option, none, some}
-use mathlib.Core.List.{List, List·Memᴰ}
+use mathlib.Core.Logic.{_≢_}
+use mathlib.Core.Option.{some}
+use mathlib.Core.List.{List}
 use lib.ListN.{length, getD}
 use Rattle.book.specs.Syntax.{con}
-use Rattle.heap.specs.Graph.{Graph, cell, var, node, follow, look, args, firstCall}
+use Rattle.heap.specs.Graph.{Graph, node, follow, args, firstCall}
 use Rattle.heap.proofs.Laws.Alike.{leads-follow, leads-self, leads-end}
 use Rattle.heap.proofs.Laws.Reach.{mem-at}
-use Rattle.standing.specs.Part.{Part, Handle}
+use Rattle.standing.specs.Part.{Handle}
 use Rattle.seek.specs.Path.{To, Shut, Closed, Open, Above, Trail, lowest, upon}
 use Rattle.seek.specs.Search.{Ground}
-use Rattle.seek.proofs.Ranks.{height, argument, settles, height-low}
+use Rattle.seek.proofs.Ranks.{height, argument}
 use Rattle.seek.proofs.Finds.{all, found-in, find-con}
 use Rattle.seek.proofs.Shuts.{to-look, shut-none}
 

@@ -1,16 +1,16 @@
 -- Where a turn begins: the settled stack, or the value's first call.
 -- Here, in order: the value's handle; what the search relies on; the settled stack; the first call; none.
 -- Assumes nothing.
-use Prim.Native.Nat.{ℕ, zero, suc, _+_, _-_, _*_, _≤_, _<_}
+use Prim.Native.Nat.{ℕ, suc, _+_, _-_, _*_, _≤_, _<_}
 use native.Mathlib.Omega.{arith}
 use native.Mathlib.Numerals.{add-one}
 use mathlib.Core.Path.{_≡_, refl, sym, ap, _∙_, subst}
 use mathlib.Core.Logic.{_⊎_, inl, inr}
 use mathlib.Core.Bool.{true, false}
-use mathlib.Core.Option.{Option, none, some}
-use mathlib.Core.List.{List, [], _∷_, _++_, List·Memᴰ, List·Memᴰ·head, List·Memᴰ·not-nil}
+use mathlib.Core.Option.{some}
+use mathlib.Core.List.{List, [], _∷_, List·Memᴰ, List·Memᴰ·head, List·Memᴰ·not-nil}
 use lib.Dec.{T}
-use lib.ListN.{length, getD, take, drop}
+use lib.ListN.{length, getD}
 use lib.Seq.{getD-set-other, getD-take}
 use Rattle.mem.specs.Words.{words}
 use Rattle.heap.specs.Graph.{Graph, node, look, firstCall, writeEach}
@@ -18,7 +18,6 @@ use Rattle.heap.specs.Store.{Store, take1}
 use Rattle.heap.proofs.Laws.Few.{few}
 use Rattle.engine.specs.Compile.{Program, compile}
 use Rattle.engine.specs.Machine as m
-use Rattle.agreement.proofs.Fine.{Takes}
 use Rattle.standing.specs.Stands.{Ours}
 use Rattle.standing.specs.Part.{rootsOf}
 use Rattle.standing.proofs.Stacks.{stack-distinct, each-ours}
@@ -42,7 +41,7 @@ use Rattle.turns.specs.Front.{Standing, toldBy, valueIn, Searched}
 use Rattle.turns.specs.Calls.{Stacked, OwnLinks, OwnMarks}
 use Rattle.turns.proofs.Grounds.{stands-ground, searched-same}
 use Rattle.turns.proofs.Climbing.{stacked-settled, stacked-first, stacked-ours}
-use Rattle.turns.proofs.Links.{stack-same, stack-links, stack-none, stack-some, stack-push}
+use Rattle.turns.proofs.Links.{stack-same, stack-none, stack-some, stack-push}
 use Rattle.turns.proofs.Driving.{store-graph}
 
 pub true-false : true ≡ false → ⊥

@@ -1,33 +1,30 @@
 -- The calls that are walked, one behind the other.
 -- Here, in order: how code ended; the model call by call; what stays; the loop's facts, before each call and at its end.
 -- Assumes nothing.
-use Prim.Native.Nat.{ℕ, zero, suc, _+_, _-_, _*_, _≤_, _<_}
+use Prim.Native.Nat.{ℕ, suc, _+_, _-_, _≤_, _<_}
 use native.Mathlib.Omega.{arith}
 use native.Mathlib.Numerals.{add-one}
 use mathlib.Core.Path.{_≡_, refl, sym, ap, _∙_, subst}
 use mathlib.Core.Logic.{_⊎_, inl, inr}
-use mathlib.Core.List.{List, [], _∷_, List·Memᴰ, List·Memᴰ·head, List·Memᴰ·tail}
+use mathlib.Core.List.{List, [], _∷_, List·Memᴰ, List·Memᴰ·head}
 use lib.ListN.{length, getD, take, drop}
 use lib.Seq.{getD-set-other, getD-take, take-take}
-use Rattle.mem.specs.Words.{words}
 use Rattle.heap.specs.Build.{upFrom}
-use Rattle.heap.specs.Place.{Distinct}
 use Rattle.heap.specs.Graph.{Graph, var, node}
-use Rattle.heap.specs.Store.{Store, take1}
+use Rattle.heap.specs.Store.{Store}
 use Rattle.engine.specs.Compile.{Program, compile}
 use Rattle.engine.specs.Machine as m
-use Rattle.standing.specs.Stands.{World, Ours}
+use Rattle.standing.specs.Stands.{Ours}
 use Rattle.store.specs.Regions.{Memory, graphOf, linksOf, restOf, storeOf, Did, setLink}
 use Rattle.store.specs.declared.NodeNo.{NodeNo}
 use Rattle.store.proofs.Laws.{length-graph}
 use Rattle.alternatives.proofs.Steps.{made-taken, nodes-are}
-use Rattle.machine.specs.Tables.{Space, Has}
+use Rattle.machine.specs.Tables.{Space}
 use Rattle.machine.specs.View.{stackOf, stopOf, demandOf}
-use Rattle.machine.specs.Contract.{Kept, Fine}
+use Rattle.machine.specs.Contract.{Kept}
 use Rattle.machine.specs.Drive.{driveOn, topStop, Topped}
 use Rattle.machine.specs.declared.Regs.{Regs}
 use Rattle.machine.specs.declared.Ended.{Ended}
-use Rattle.machine.specs.declared.Cur.{Cur}
 use Rattle.machine.specs.declared.Cur.the-variants.{Empty, Holds}
 use Rattle.machine.specs.declared.Stop.{Stop}
 use Rattle.machine.specs.declared.Stop.the-variants.{Demand, Becomes, Parts, Fails, Misfits, Broken, Full}

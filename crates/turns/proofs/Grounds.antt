@@ -1,28 +1,26 @@
 -- The part of the store that is searched for a computation that stands there.
 -- Here, in order: numbers that are made; the part; what a search for the front relies on; what it leaves.
 -- Assumes nothing.
-use Prim.Native.Nat.{ℕ, zero, suc, _+_, _-_, _*_, _≤_, _<_}
+use Prim.Native.Nat.{ℕ, zero, suc, _+_, _-_, _≤_, _<_}
 use native.Mathlib.Omega.{arith}
-use mathlib.Core.Path.{_≡_, refl, sym, ap, _∙_, subst}
+use mathlib.Core.Path.{_≡_, refl, sym, subst}
 use mathlib.Core.Bool.{Bool, true, false}
-use mathlib.Core.List.{List, [], _∷_, _++_, List·Memᴰ, List·Memᴰ·head, List·Memᴰ·tail}
-use lib.ListN.{length, getD}
+use mathlib.Core.List.{List, [], _∷_, List·Memᴰ, List·Memᴰ·head, List·Memᴰ·tail}
 use lib.Dec.{ltb}
 use borrow.Author.Tests.{ltb-true, ltb-false}
 use Rattle.book.specs.Syntax.{Symbol}
 use Rattle.heap.specs.Graph.{Graph}
 use Rattle.heap.specs.Build.{upFrom}
-use Rattle.heap.specs.Store.{Store}
 use Rattle.heap.proofs.Laws.Good.{Good}
 use Rattle.engine.specs.Machine as m
 use Rattle.standing.specs.Stands.{Stands, Ours}
-use Rattle.standing.specs.Part.{Part, rootsOf}
+use Rattle.standing.specs.Part.{rootsOf}
 use Rattle.standing.proofs.Walks.{stands-part}
 use Rattle.store.specs.Regions.{graphOf, marksOf, linksOf, storeOf}
 use Rattle.store.proofs.Laws.{length-graph}
 use Rattle.alternatives.proofs.Steps.{nodes-are}
 use Rattle.seek.specs.Path.{Closed, Resumes}
-use Rattle.seek.specs.Search.{Ground, Resumable, Sought}
+use Rattle.seek.specs.Search.{Ground}
 use Rattle.turns.specs.Front.{Searched}
 
 mem-up : (w a y : ℕ) → a ≤ y → y < a + w → List·Memᴰ y (upFrom a w)

@@ -6,19 +6,16 @@ use native.Mathlib.Omega.{arith}
 use mathlib.Core.Path.{_≡_, refl, sym, ap, _∙_, subst}
 use mathlib.Core.Bool.{Bool, true, false}
 use mathlib.Core.Option.{Option, none, some}
-use mathlib.Core.List.{List, [], _∷_, reverse, List·Memᴰ}
+use mathlib.Core.List.{List, [], _∷_}
 use lib.ListN.{length, getD, getElem?, take, drop}
 use lib.Dec.{leb}
 use Rattle.book.specs.Syntax.{Book, con, fun}
 use Rattle.heap.specs.Graph.{Graph, Node, cell, var, fwd, node, follow, look}
 use Rattle.heap.specs.Store.{Store, take1}
-use Rattle.heap.proofs.Laws.Good.{Good}
 use Rattle.heap.proofs.Laws.Alike.{rep-look, leads-keep, leads-follow, leads-end}
 use Rattle.engine.specs.Code.{Instr, load, branch, go, push, pop, makeAnon, storeVar, makeVar, makeTerm, replace, narrow, choice, fail, wrong, decode, width}
 use Rattle.engine.specs.Compile.{Program, compile}
 use Rattle.engine.specs.Machine as m
-use Rattle.agreement.proofs.Fine.{Takes}
-use Rattle.agreement.proofs.Calls.{FineBook}
 use Rattle.standing.specs.Stands.{World, Ours}
 use Rattle.standing.proofs.Grows.{Stops, stops-becomes}
 use Rattle.standing.proofs.Step.{top-alike}

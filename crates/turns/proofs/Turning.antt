@@ -1,7 +1,7 @@
 -- One turn, put together.
 -- Here, in order: how the code ended and what the step relies on; what stays; the turn.
 -- Assumes nothing.
-use Prim.Native.Nat.{ℕ, zero, suc, _+_, _-_, _*_, _≤_, _<_}
+use Prim.Native.Nat.{ℕ, zero, suc, _+_, _-_, _≤_, _<_}
 use native.Mathlib.Omega.{arith}
 use mathlib.Core.Path.{_≡_, refl, sym, ap, _∙_, subst}
 use mathlib.Core.Logic.{_⊎_, inl, inr}
@@ -16,16 +16,15 @@ use Rattle.heap.specs.Store.{Store, take1}
 use Rattle.engine.specs.Compile.{Program, compile}
 use Rattle.engine.specs.Machine as m
 use Rattle.agreement.proofs.Fine.{Takes}
-use Rattle.standing.specs.Shared.{Took, wrote, finish, storeTurn}
+use Rattle.standing.specs.Shared.{wrote, finish, storeTurn}
 use Rattle.standing.specs.Stands.{Ours, Reps}
 use Rattle.standing.proofs.Grows.{Stops, stops-becomes}
 use Rattle.standing.proofs.Step.{Tolds, same-stop, turn-alike}
 use Rattle.standing.proofs.Alternatives.{Splits, splits-turn}
-use Rattle.store.specs.Regions.{graphOf, marksOf, linksOf, placesOf, restOf, storeOf}
-use Rattle.store.specs.declared.NodeNo.{NodeNo}
+use Rattle.store.specs.Regions.{graphOf, marksOf, linksOf, restOf, storeOf}
 use Rattle.store.proofs.Laws.{length-graph}
 use Rattle.alternatives.proofs.Steps.{made-taken, nodes-are}
-use Rattle.alternatives.specs.Copies.{Divides, termsIn}
+use Rattle.alternatives.specs.Copies.{termsIn}
 use Rattle.machine.specs.View.{stackOf, stopOf, termsOf, preTerms}
 use Rattle.machine.specs.Tables.{Has}
 use Rattle.machine.specs.declared.Regs.{Regs}

@@ -1,5 +1,5 @@
 -- The stack within a turn, and what is promised of the calls that are walked.
--- Here, in order: a stack that climbs; where a turn begins; the calls; what they come to.
+-- Here, in order: a stack that climbs; the calls; links and marks that stay; what becomes a forward; what the calls come to; where a turn begins.
 -- Not here: the turn (Front).
 -- Assumes nothing.
 use Prim.Native.Nat.{ℕ, _≤_, _<_}

@@ -1,15 +1,15 @@
 -- What a turn on the store is given, and what it gives.
--- Here, in order: room; a computation of the definition that stands in the store; the front of the pool; the answer as the model gives it; what stays; the turn.
+-- Here, in order: room; a computation of the definition that stands in the store; the front of the pool; what searches leave; the answer as the model gives it; what stays; the turn.
 -- Not here: the calls of a turn (Calls), the model (standing, Shared).
 -- Assumes nothing.
 use Prim.Native.Nat.{ℕ, _+_, _*_, _≤_, _<_}
 use mathlib.Core.Path.{_≡_}
-use mathlib.Core.List.{List, _∷_, List·Memᴰ}
+use mathlib.Core.List.{List, _∷_}
 use lib.ListN.{length, getD, take}
 use Rattle.mem.specs.Words.{words}
 use Rattle.book.specs.Syntax.{Book}
 use Rattle.book.specs.Accepted as A
-use Rattle.heap.specs.Graph.{Graph, node, writeEach}
+use Rattle.heap.specs.Graph.{node, writeEach}
 use Rattle.heap.specs.Store.{Store, take1}
 use Rattle.engine.specs.Turn.{failed, misfit}
 use Rattle.engine.specs.Compile.{compile}

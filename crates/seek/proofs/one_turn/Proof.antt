@@ -1,7 +1,6 @@
 -- A turn, by what the arguments lead to.
 -- Assumes nothing.
 use native.Mathlib.Omega.{arith}
-use mathlib.Core.Path.{_≡_, sym, _∙_}
 use mathlib.Core.Logic.{inl, inr}
 use borrow.Author.Needs.{needs}
 use Rattle.seek.proofs.Meets.{turn-call, turn-in, turn-up, turn-done, turn-down}

@@ -1,5 +1,5 @@
 use native.Mathlib.Omega.{arith}
-use mathlib.Core.Path.{_≡_, refl, ap, sym, _∙_, subst}
+use mathlib.Core.Path.{_∙_}
 use Rattle.alternatives.proofs.Rounds.{refused, passed}
 use Rattle.turns.proofs.Turning.{front-calls, turn-stops, turn-is, turn-stays, turn-more, turn-later, turn-finished, turn-searched, silent-is, silent-stays, silent-later}
 use Rattle.turns.proofs.Silent.{finished-no-result}

@@ -1,8 +1,5 @@
-use Prim.Native.Nat.{ℕ}
-use mathlib.Core.List.{List}
-use lib.ListN.{getD}
 use native.Mathlib.Omega.{arith}
-use mathlib.Core.Path.{_≡_, refl, ap, sym, _∙_}
+use mathlib.Core.Path.{refl, ap, _∙_}
 use Rattle.store.specs.Regions.{Memory}
 use Rattle.turns.proofs.Begins.{true-false, false-true, standing-search, begins-settled, begins-none, begins-inside, begins-first, begins-links, begins-marks, begins-finished, begins-searched, silent-graph, silent-links, silent-marks, silent-finished, silent-searched}
 use borrow.Author.Needs.{needs}
