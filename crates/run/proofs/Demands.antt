@@ -1,14 +1,14 @@
 -- What a step's parts ask, after the front's turn.
 -- Here, in order: how many alternatives; the turn; the state without its front; what follows.
 -- Assumes nothing.
-use Prim.Native.Nat.{ℕ, suc, _+_, _*_, _-_, _≤_, _<_}
+use Prim.Native.Nat.{ℕ, _+_, _*_, _-_, _≤_, _<_}
 use native.Mathlib.Omega.{arith}
-use mathlib.Core.Path.{_≡_, refl, ap, sym, _∙_, subst}
+use mathlib.Core.Path.{_≡_, ap, sym, _∙_, subst}
 use mathlib.Core.List.{List}
 use lib.ListN.{length}
 use Rattle.mem.specs.Words.{words}
 use Rattle.heap.specs.Store.{Store}
-use Rattle.engine.specs.Turn.{Turned, splits}
+use Rattle.engine.specs.Turn.{Turned}
 use Rattle.engine.specs.Compile.{compile}
 use Rattle.engine.specs.Machine as m
 use Rattle.engine.specs.Run as e
@@ -18,17 +18,15 @@ use Rattle.standing.proofs.Turns.{store-stands}
 use Rattle.standing.proofs.Room.{room-bound}
 use Rattle.standing.proofs.Moments.{pool-length}
 use Rattle.store.specs.Regions.{AllRoom, Room, graphOf, storeOf}
-use Rattle.seek.specs.Walkable.{Clear}
 use Rattle.copier.specs.Listed.{Clean}
 use Rattle.machine.specs.Tables.{codeBound}
 use Rattle.pool.specs.declared.Held.{Held}
 use Rattle.pool.specs.Ring.{Sized, placeOf, rootsOf, heldIn, RowGot}
 use Rattle.pool.proofs.Rings.{place-inside}
-use Rattle.alternatives.specs.Copies.{altsIn}
 use Rattle.writer.specs.Walk.{Reads}
 use Rattle.turns.specs.declared.What.the-variants.{Split, Wrote}
 use Rattle.turns.specs.declared.Turned as t
-use Rattle.turns.specs.Front.{Space, Front, TurnTaken, tookOf, withTop}
+use Rattle.turns.specs.Front.{Space, Front, valueIn, Searched, TurnTaken, tookOf}
 use Rattle.turns.proofs.Few.{AtMost, machine-few}
 use Rattle.run.specs.declared.State.{State}
 use Rattle.run.specs.Between.{Bounded, Runs}
@@ -36,16 +34,17 @@ use Rattle.run.specs.Arms.{afterTurn}
 use Rattle.run.proofs.Fronts.{front, H}
 use Rattle.run.proofs.Nexts.{Z, took, alts-length}
 use Rattle.run.proofs.Values.{value-reads}
+use Rattle.run.proofs.Searches.{front-searched}
 
 split-few : {w : World} {μ μ′ : Store} {cs : List m.Held} (x : Turned m.Kept) → After w μ x (split μ′ cs) → AtMost x → length cs ≤ 32
 split-few x (after-splits I) f = let e = pool-length (I .pool) in omega arith
 
 module _ (l : e.Limits) (n : ℕ) (code : List ℕ) (st : State) (s results : List ℕ) (b : Bounded l n st s results) (some : 1 ≤ st .waiting) (held : Held) (G : RowGot (l .nodes) n (st .head) s held) (R : Runs l n code st s results) where
   -- what the turn asks
-  pub turn-asks : length code ≤ codeBound → Space (l .nodes) (20 * l .pool) s × (((length code ≤ codeBound) × (st .made ≤ l .nodes)) × (Sized (held .roots) × (Front (l .nodes) (20 * l .pool) code (st .made) held s × (Clear (l .nodes) s × Clean (l .nodes) s))))
+  pub turn-asks : length code ≤ codeBound → Space (l .nodes) (20 * l .pool) s × (((length code ≤ codeBound) × (st .made ≤ l .nodes)) × (Sized (held .roots) × (Front (l .nodes) (20 * l .pool) code (st .made) held s × (Searched (l .nodes) (st .made) (valueIn held) s × Clean (l .nodes) s))))
   turn-asks c =
       let p = b .room in let h = b .handles in let k = G .count in let q = b .pool in
-      ((p .0, omega arith, omega arith), ((c, b .made), ((omega arith, omega arith), (front l n code st s results b some held G R, (R .clear, R .clean)))))
+      ((p .0, omega arith, omega arith), ((c, b .made), ((omega arith, omega arith), (front l n code st s results b some held G R, (front-searched l n code st s results b some held G R, R .clean)))))
 
   module _ (under : st .turns < l .budget) where
     pub taken-asks : (l .pool ≤ 1024) × (st .head < l .pool) × (st .turns < 1000000) × (1 ≤ st .waiting)

@@ -1,28 +1,21 @@
 -- The front of the pool and the others, for a moment of the definition that a state stands for; and what a turn of the front leaves of the others.
 -- Here, in order: a moment taken apart; the state's moment with its front; what the turn is given; the others after the turn.
 -- Assumes nothing.
-use Prim.Native.Nat.{ℕ, zero, suc, _+_, _*_, _-_, _≤_, _<_}
+use Prim.Native.Nat.{ℕ, _+_, _*_, _-_, _≤_, _<_}
 use native.Mathlib.Omega.{arith}
 use mathlib.Core.Path.{_≡_, refl, ap, sym, _∙_, subst}
 use mathlib.Core.Logic.{_⊎_, inl, inr}
-use mathlib.Core.Bool.{Bool, true, false}
-use mathlib.Core.List.{List, [], _∷_, _++_, List·Memᴰ, List·Memᴰ·not-nil, List·Memᴰ·head, List·Memᴰ·tail, List·Memᴰ·append-cases, Memᴰ·append-left, Memᴰ·append-right}
-use lib.ListN.{length, getD, take}
-use lib.Dec.{ltb}
+use mathlib.Core.List.{List, [], _∷_, _++_, List·Memᴰ, List·Memᴰ·not-nil, List·Memᴰ·append-cases, Memᴰ·append-left, Memᴰ·append-right}
+use lib.ListN.{length, take}
 use lib.Seq.{take-take}
-use borrow.Author.Tests.{ltb-true, ltb-false}
 use Rattle.book.specs.Syntax.{Book}
-use Rattle.book.specs.Accepted as A
 use Rattle.book.specs.Answers.{Counts}
-use Rattle.heap.specs.Graph.{node}
-use Rattle.heap.specs.Build.{upFrom}
 use Rattle.heap.specs.Store.{Store}
-use Rattle.engine.specs.Compile.{compile}
 use Rattle.engine.specs.Machine as m
 use Rattle.engine.specs.Run as e
 use Rattle.agreement.proofs.Calls.{FineBook}
 use Rattle.agreement.proofs.Agree.{Sound}
-use Rattle.standing.specs.Shared.{StoreMoment, storeMoment}
+use Rattle.standing.specs.Shared.{storeMoment}
 use Rattle.standing.specs.Stands.{Stands, Ours, Pool, empty, join}
 use Rattle.standing.specs.Moments.{Room, Sounds, StandsFor, stands-for}
 use Rattle.standing.specs.Part.{stacksOf}
@@ -30,12 +23,13 @@ use Rattle.standing.proofs.Stands.{Elsewhere}
 use Rattle.standing.proofs.Queue.{pool-idle}
 use Rattle.standing.proofs.Room.{room-bound}
 use Rattle.standing.proofs.Stacks.{each-ours}
-use Rattle.store.specs.Regions.{graphOf, linksOf, restOf, storeOf}
+use Rattle.store.specs.Regions.{restOf, storeOf}
 use Rattle.store.proofs.Laws.{length-graph}
 use Rattle.pool.specs.declared.Held.{Held}
 use Rattle.pool.specs.Ring.{placeOf, heldIn, poolOf, RowGot}
 use Rattle.pool.proofs.Rings.{place-inside, front-is, pool-kept}
 use Rattle.turns.specs.Front.{Front, Stays}
+use Rattle.turns.proofs.Grounds.{below-made}
 use Rattle.run.specs.declared.State.{State}
 use Rattle.run.specs.Between.{countsIn, momentOf, Bounded, Runs}
 
@@ -65,23 +59,6 @@ module _ (book : Book) (B : FineBook book) (l : e.Limits) where
     where
       go : (ks : List m.Kept) (own : List ℕ) → Pool μ ks [] own → e.moment ks κ out ≡ e.moment [] κ out
       go ks own empty = refl
-
-mem-up : (w a y : ℕ) → a ≤ y → y < a + w → List·Memᴰ y (upFrom a w)
-unfolding upFrom
-mem-up zero a y p q = absurd (omega arith)
-mem-up (suc w) a y p q = at (ltb a y) refl (λ p′. mem-up w (suc a) y p′ (omega arith))
-  where
-    at : (b : Bool) → ltb a y ≡ b → (suc a ≤ y → List·Memᴰ y (upFrom (suc a) w)) → List·Memᴰ y (a ∷ upFrom (suc a) w)
-    at true t ih = List·Memᴰ·tail (ih (ltb-true a y t))
-    at false t ih = let u = ltb-false a y t in let q : y ≡ a = omega arith in List·Memᴰ·head q
-
--- a number that is not free is below those that are
-below-made : (L made x : ℕ) → x < L → ¬ (List·Memᴰ x (upFrom made (L - made))) → x < made
-below-made L made x h n = go (ltb x made) refl
-  where
-    go : (b : Bool) → ltb x made ≡ b → x < made
-    go true t = ltb-true x made t
-    go false t = let u = ltb-false x made t in absurd (n (mem-up (L - made) made x u (omega arith)))
 
 stacks-owned : {μ : Store} {ks : List m.Kept} {cs : List m.Held} {own : List ℕ} → Pool μ ks cs own → (x : ℕ) → List·Memᴰ x (stacksOf cs) → List·Memᴰ x own
 stacks-owned empty x w = w

@@ -71,7 +71,7 @@ module _ (l : e.Limits) (n : ℕ) (code : List ℕ) (st₀ : State) (s₀ result
       unfolding nextOf
       on R =
           let x = next-of (R .book) (R .fine) l (e.step (m.turn (compile (R .book))) l (R .moment)) (momentOf l n st₁ s₁ results₁) (T .next R) in (
-            record { book = R .book; accepted = R .accepted; fine = R .fine; coded = R .coded; tables = T .tables R; moment = x .0; stands = x .2; clear = T .clear; clean = T .clean },
+            record { book = R .book; accepted = R .accepted; fine = R .fine; coded = R .coded; tables = T .tables R; moment = x .0; stands = x .2; searched = T .searched st₁ refl; clean = T .clean },
             ap (λ (k : ℕ). e.closed code (e.runFrom (m.turn (compile (R .book))) l k (R .moment))) left-is ∙ ap (e.closed code) (run-next (m.turn (compile (R .book))) l (left - 1) (R .moment) (x .0) (x .1)),
           )
 

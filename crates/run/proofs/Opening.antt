@@ -27,9 +27,10 @@ use Rattle.standing.specs.Moments.{StandsFor}
 use Rattle.standing.proofs.Room.{room-ready, room-fits, room-short}
 use Rattle.standing.proofs.Stands.{pour-none}
 use Rattle.standing.proofs.OnStore.{ready-fresh, question-poured, opening-stands}
-use Rattle.store.specs.Regions.{Room, AllRoom, graphOf, restOf, storeOf}
+use Rattle.store.specs.Regions.{Room, AllRoom, graphOf, linksOf, restOf, storeOf}
 use Rattle.store.proofs.Laws.{length-graph}
 use Rattle.seek.specs.Walkable.{Clear}
+use Rattle.seek.proofs.Survives.{clear-closed, clear-resumes}
 use Rattle.copier.specs.Listed.{Clean}
 use Rattle.machine.specs.Tables.{Has}
 use Rattle.pool.specs.declared.Held.{Held}
@@ -140,6 +141,9 @@ module _ (l : e.Limits) (code s q results : List ℕ) (b : Roomy l s results) (s
             let d = Q (asked X) .made yes in
             moment-is (store-is (l .nodes) (B .made) s₃ s₂ (P .only .graph)) (P .is) (ap (λ (k : ℕ). counts 0 k 1 0 0 0 0) d) refl
 
+        clear₃ : Asks l code s q → Clear (l .nodes) s₃
+        clear₃ X = P .only .marks ∙ Q (asked X) .beside .marks ∙ Y .clear
+
         abbrev runs₀ : (X : Asks l code s q) → Runs l (B .roots .n) code (openingState 1 (B .made)) s₃ results
         runs₀ X = record {
           book = X .book;
@@ -149,7 +153,7 @@ module _ (l : e.Limits) (code s q results : List ℕ) (b : Roomy l s results) (s
           tables = tables X;
           moment = e.opening m.fromStart (start (X .right));
           stands = subst (StandsFor (X .book) (X .fine) l (e.opening m.fromStart (start (X .right)))) (sym (moment₁ X)) (opening-stands (X .book) (X .fine) l (storeOf (l .nodes) 0 s₁) (ready l s₁) (X .right) (term-fine X) _ _ (poured X));
-          clear = P .only .marks ∙ Q (asked X) .beside .marks ∙ Y .clear;
+          searched = record { closed = clear-closed (l .nodes) (B .made) (graphOf (l .nodes) s₃) s₃ (clear₃ X); resumes = λ c w. clear-resumes (l .nodes) (B .made) (graphOf (l .nodes) s₃) s₃ (linksOf (l .nodes) s₃) (c .value) (clear₃ X) };
           clean = P .only .places ∙ Q (asked X) .beside .places ∙ Y .clean;
         }
 

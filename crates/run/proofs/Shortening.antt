@@ -8,6 +8,7 @@ use mathlib.Core.List.{List, _∷_}
 use lib.ListN.{getD, take}
 use Rattle.heap.specs.Build.{upFrom}
 use Rattle.engine.specs.Compile.{compile}
+use Rattle.engine.specs.Machine as m
 use Rattle.engine.specs.Run as e
 use Rattle.standing.specs.Shared.{storeMoment}
 use Rattle.standing.specs.Moments.{StandsFor}
@@ -20,9 +21,10 @@ use Rattle.pool.specs.Ring.{chain, stackOf, rootsAt, heldIn, rowOf, placeOf, po
 use Rattle.pool.proofs.Rings.{front-is, pool-kept}
 use Rattle.run.specs.declared.State.{State}
 use Rattle.run.specs.declared.Stepped.{Stepped}
-use Rattle.run.specs.Between.{countsIn, momentOf, Bounded, Runs, StepTaken}
+use Rattle.run.specs.Between.{countsIn, momentOf, Bounded, AllSearched, SearchedIn, Runs, StepTaken}
 use Rattle.run.proofs.Fronts.{rest, moment-front}
 use Rattle.run.proofs.Nexts.{moment-is}
+use Rattle.run.proofs.Searches.{short-searched}
 
 -- the top of the entries along the links
 top-of : (L : ℕ) (s : List ℕ) (top : ℕ) → topOf (stackOf L s top) ≡ top
@@ -77,6 +79,15 @@ module _ (l : e.Limits) (n : ℕ) (code : List ℕ) (st : State) (s results : Li
       (moment-short (R .book) (R .fine) l (R .moment) (storeOf (l .nodes) (st .made) s) (heldIn (l .nodes) s held) (rest l n code st s results b some held G s) (countsIn st) (take (st .written) results)
       (subst (StandsFor (R .book) (R .fine) l (R .moment)) (moment-front l n code st s results b some held G) (R .stands)))
 
+  -- searches go on where they stopped
+  searched₁ : Runs l n code st s results → SearchedIn l n st s₁
+  unfolding heldIn
+  searched₁ R =
+      let h = b .head in let w = b .waiting in let f = b .handles in
+      subst (λ (cs : List m.Held). AllSearched (l .nodes) (st .made) cs s₁)
+      (sym (front-is (l .nodes) (l .pool) n (st .head) (st .waiting) s held h some w G) ∙ sym (pool-kept (l .nodes) (l .pool) n (st .head) (st .waiting) s s₁ (f .1) h w (ap (take (20 * l .pool)) rest₁) (λ x u. ap (λ (k : List ℕ). getD k x 0) links₁)))
+      (short-searched l n code st s results b some held G R s₁ D (top-of (l .nodes) s (held .top)))
+
   -- the state stands for the same moment
   abbrev runs₁ : Runs l n code st s results → Runs l n code st s₁ results
   runs₁ R = record {
@@ -87,13 +98,13 @@ module _ (l : e.Limits) (n : ℕ) (code : List ℕ) (st : State) (s results : Li
     tables = subst (Has (compile (R .book)) (20 * l .pool)) (sym rest₁) (R .tables);
     moment = R .moment;
     stands = stands₁ R;
-    clear = ap (λ (m : Memory). m .marks) (D .is) ∙ R .clear;
+    searched = searched₁ R;
     clean = ap (λ (m : Memory). m .places) (D .is) ∙ R .clean;
   }
 
   -- so a step from there is a step from before
   taken₁ : (s₂ results₂ : List ℕ) (r : Stepped) → StepTaken l n code st s₁ s₂ results results₂ r → StepTaken l n code st s s₂ results results₂ r
-  taken₁ s₂ results₂ r T = record { next = λ R. T .next (runs₁ R); tables = λ R. T .tables (runs₁ R); clear = T .clear; clean = T .clean; bounded = T .bounded; before = T .before; behind = T .behind }
+  taken₁ s₂ results₂ r T = record { next = λ R. T .next (runs₁ R); tables = λ R. T .tables (runs₁ R); searched = T .searched; clean = T .clean; bounded = T .bounded; before = T .before; behind = T .behind }
 
 -- What is known where the front is about to take its turn: the state is in bounds, runs, and has its front; and a step from there is a step from before.
 pub record Readied (l : e.Limits) (n : ℕ) (code : List ℕ) (st : State) (s results : List ℕ) (held : Held) (s₁ : List ℕ) : Type 0 where

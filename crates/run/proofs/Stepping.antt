@@ -3,13 +3,12 @@
 -- Assumes nothing.
 use Prim.Native.Nat.{ℕ, suc, _+_, _*_, _-_, _≤_, _<_}
 use native.Mathlib.Omega.{arith}
-use native.Mathlib.Numerals.{add-one}
 use mathlib.Core.Path.{_≡_, refl, ap, sym, _∙_, subst}
 use mathlib.Core.Bool.{Bool, true, false}
 use mathlib.Core.List.{List, _++_, append-assoc}
 use lib.ListN.{length, take, drop, length-append, length-drop}
 use lib.Dec.{leb}
-use lib.Seq.{take-at, drop-at, take-take, length-take-le}
+use lib.Seq.{take-at, drop-at, length-take-le}
 use borrow.Author.Tests.{leb-true}
 use Rattle.mem.specs.Words.{words}
 use Rattle.heap.specs.Graph.{writeEach}
@@ -17,14 +16,12 @@ use Rattle.engine.specs.Compile.{compile}
 use Rattle.engine.specs.Machine as m
 use Rattle.engine.specs.Run as e
 use Rattle.standing.specs.Moments.{StandsNext}
-use Rattle.store.specs.Regions.{AllRoom, graphOf, restOf}
-use Rattle.seek.specs.Walkable.{Clear}
+use Rattle.store.specs.Regions.{graphOf, restOf}
 use Rattle.copier.specs.Listed.{Clean}
 use Rattle.machine.specs.Tables.{Has}
 use Rattle.pool.specs.declared.Held.{Held}
 use Rattle.pool.specs.Ring.{rootsOf, placeOf, RowGot, RestOnly}
 use Rattle.pool.proofs.Rings.{place-inside}
-use Rattle.writer.specs.Walk.{Kept}
 use Rattle.turns.specs.declared.What.the-variants.{Went, Split, Wrote, Failed, Misfit, NoneLeft, Lost}
 use Rattle.turns.specs.declared.Turned as t
 use Rattle.turns.specs.Front.{Stays, TurnTaken, withTop}
@@ -34,11 +31,12 @@ use Rattle.run.specs.declared.Answer.{Answer}
 use Rattle.run.specs.declared.Answer.the-variants.{Emptied, Spent, NoNodes, NoPlaces, NoRoom}
 use Rattle.run.specs.declared.Stepped.{Stepped}
 use Rattle.run.specs.declared.Stepped.the-variants.{Ended, On}
-use Rattle.run.specs.Between.{nextOf, writtenBy, Bounded, Runs, StepTaken}
+use Rattle.run.specs.Between.{nextOf, writtenBy, Bounded, SearchedIn, Runs, StepTaken}
 use Rattle.run.specs.Arms.{afterTurn, afterEnd, afterWent, afterSplit, afterValue, WentOn, Spread, spreadBy, Valued, valueBy}
 use Rattle.run.proofs.Fronts.{H}
 use Rattle.run.proofs.Tabled.{has-taken, has-only}
 use Rattle.run.proofs.Nexts.{Z, went-next, split-next, full-next, never-lost, failed-next, misfit-next}
+use Rattle.run.proofs.Searches.{after-went, after-split, after-end, after-value}
 use Rattle.run.proofs.Demands.{few₀}
 use Rattle.run.proofs.Values.{empty-next, spent-next, value-next}
 
@@ -57,7 +55,7 @@ on-is st st′ p = ap (λ (x : Stepped). state-of x st) p
 module _ (l : e.Limits) (n : ℕ) (code : List ℕ) (st : State) (s results : List ℕ) (b : Bounded l n st s results) (R₀ : Runs l n code st s results) where
   stopped : (a : Answer) → ((R : Runs l n code st s results) → StandsNext (R .book) (R .fine) l (e.step (m.turn (compile (R .book))) l (R .moment)) (nextOf l n s results (Ended a))) → StepTaken l n code st s s results results (Ended a)
   unfolding writtenBy
-  stopped a f = record { next = f; tables = λ R. R .tables; clear = R₀ .clear; clean = R₀ .clean; bounded = λ st′ p. absurd (on-same a st′ st′ p); before = refl; behind = refl }
+  stopped a f = record { next = f; tables = λ R. R .tables; searched = λ st′ p. absurd (on-same a st′ st′ p); clean = R₀ .clean; bounded = λ st′ p. absurd (on-same a st′ st′ p); before = refl; behind = refl }
 
   pub at-empty : st .waiting ≡ 0 → StepTaken l n code st s s results results (Ended Emptied)
   at-empty w = stopped Emptied (λ R. empty-next l n code st s results b R s results w)
@@ -111,19 +109,16 @@ module _ (l : e.Limits) (n : ℕ) (code : List ℕ) (st : State) (s results : Li
 
   -- the results stay
   quiet : (st₂ : State) (s₂ : List ℕ) → st₂ .written ≡ st .written → ((R : Runs l n code st s results) → StandsNext (R .book) (R .fine) l (e.step (m.turn (compile (R .book))) l (R .moment)) (nextOf l n s₂ results (On st₂)))
-      → ((R : Runs l n code st s results) → Has (compile (R .book)) (20 * l .pool) (restOf (l .nodes) s₂)) → Clear (l .nodes) s₂ → Clean (l .nodes) s₂ → Bound st₂ s₂ results → StepTaken l n code st s s₂ results results (On st₂)
-  quiet st₂ s₂ w f t c d B = record { next = f; tables = t; clear = c; clean = d; bounded = λ st′ p. subst (λ (x : State). Bound x s₂ results) (on-is st₂ st′ p) B; before = refl; behind = refl }
+      → ((R : Runs l n code st s results) → Has (compile (R .book)) (20 * l .pool) (restOf (l .nodes) s₂)) → SearchedIn l n st₂ s₂ → Clean (l .nodes) s₂ → Bound st₂ s₂ results → StepTaken l n code st s s₂ results results (On st₂)
+  quiet st₂ s₂ w f t c d B = record { next = f; tables = t; searched = λ st′ p. subst (λ (x : State). SearchedIn l n x s₂) (on-is st₂ st′ p) c; clean = d; bounded = λ st′ p. subst (λ (x : State). Bound x s₂ results) (on-is st₂ st′ p) B; before = refl; behind = refl }
 
   halted : (a : Answer) (s₂ results₂ : List ℕ) → results₂ ≡ results → ((R : Runs l n code st s results) → StandsNext (R .book) (R .fine) l (e.step (m.turn (compile (R .book))) l (R .moment)) (nextOf l n s₂ results₂ (Ended a)))
-      → ((R : Runs l n code st s results) → Has (compile (R .book)) (20 * l .pool) (restOf (l .nodes) s₂)) → Clear (l .nodes) s₂ → Clean (l .nodes) s₂ → StepTaken l n code st s s₂ results results₂ (Ended a)
-  halted a s₂ results₂ q f t c d = record { next = f; tables = t; clear = c; clean = d; bounded = λ st′ p. absurd (on-same a st′ st′ p); before = ap (take (st .written)) q; behind = ap (drop (writtenBy st (Ended a))) q }
+      → ((R : Runs l n code st s results) → Has (compile (R .book)) (20 * l .pool) (restOf (l .nodes) s₂)) → Clean (l .nodes) s₂ → StepTaken l n code st s s₂ results results₂ (Ended a)
+  halted a s₂ results₂ q f t d = record { next = f; tables = t; searched = λ st′ p. absurd (on-same a st′ st′ p); clean = d; bounded = λ st′ p. absurd (on-same a st′ st′ p); before = ap (take (st .written)) q; behind = ap (drop (writtenBy st (Ended a))) q }
 
   module _ (s₂ : List ℕ) (o : RestOnly (l .nodes) 0 (20 * l .pool) s₁ s₂) where
     tables₂ : (R : Runs l n code st s results) → Has (compile (R .book)) (20 * l .pool) (restOf (l .nodes) s₂)
     tables₂ R = has-only (compile (R .book)) (l .nodes) (20 * l .pool) s₁ s₂ o (tables₁ R)
-
-    clear₂ : Clear (l .nodes) s₂
-    clear₂ = o .marks ∙ Z₀ R₀ .clear
 
     clean₂ : Clean (l .nodes) s₂
     clean₂ = o .places ∙ Z₀ R₀ .clean
@@ -136,7 +131,7 @@ module _ (l : e.Limits) (n : ℕ) (code : List ℕ) (st : State) (s results : Li
       let i = b .waiting in let u = b .written in
       let B : Bound (afterWent (afterTurn (l .pool) st) (r .made)) s₂ results
       = bounds _ s₂ results (long₂ s₂ (W .only)) refl refl (omega arith) (X .more .1) refl (omega arith) (omega arith) (omega arith) (omega arith) (omega arith) (omega arith) u in
-      quiet st₂ s₂ (ap (λ (x : State). x .written) (W .is)) (λ R. went-next l n code st s results b some held G under s₁ r X R w s₂ st₂ W) (tables₂ s₂ (W .only)) (clear₂ s₂ (W .only)) (clean₂ s₂ (W .only))
+      quiet st₂ s₂ (ap (λ (x : State). x .written) (W .is)) (λ R. went-next l n code st s results b some held G under s₁ r X R w s₂ st₂ W) (tables₂ s₂ (W .only)) (after-went l n code st s results b some held G R₀ under s₁ r X s₂ st₂ W) (clean₂ s₂ (W .only))
       (subst (λ (x : State). Bound x s₂ results) (sym (W .is)) B)
 
   split₂ : (count : ℕ) → count ≤ 32 → r .what ≡ Split count → (s₂ : List ℕ) (g : Stepped) → Spread l n (afterTurn (l .pool) st) count (r .made) s₁ s₂ g → StepTaken l n code st s s₂ results results g
@@ -150,25 +145,25 @@ module _ (l : e.Limits) (n : ℕ) (code : List ℕ) (st : State) (s results : Li
       go false a =
           let f : g ≡ Ended NoPlaces = W .is ∙ rw a in
           subst (StepTaken l n code st s s₂ results results) (sym f)
-          (halted NoPlaces s₂ results refl (λ R. subst (λ (x : Stepped). StandsNext (R .book) (R .fine) l (e.step (m.turn (compile (R .book))) l (R .moment)) (nextOf l n s₂ results x)) f (next₂ R)) (tables₂ s₂ (W .only)) (clear₂ s₂ (W .only)) (clean₂ s₂ (W .only)))
+          (halted NoPlaces s₂ results refl (λ R. subst (λ (x : Stepped). StandsNext (R .book) (R .fine) l (e.step (m.turn (compile (R .book))) l (R .moment)) (nextOf l n s₂ results x)) f (next₂ R)) (tables₂ s₂ (W .only)) (clean₂ s₂ (W .only)))
       go true a =
           let f : g ≡ On (afterSplit (afterTurn (l .pool) st) count (r .made)) = W .is ∙ rw a in
           let i = leb-true _ _ a in let u = b .written in
           subst (StepTaken l n code st s s₂ results results) (sym f)
-          (quiet _ s₂ refl (λ R. subst (λ (x : Stepped). StandsNext (R .book) (R .fine) l (e.step (m.turn (compile (R .book))) l (R .moment)) (nextOf l n s₂ results x)) f (next₂ R)) (tables₂ s₂ (W .only)) (clear₂ s₂ (W .only)) (clean₂ s₂ (W .only))
+          (quiet _ s₂ refl (λ R. subst (λ (x : Stepped). StandsNext (R .book) (R .fine) l (e.step (m.turn (compile (R .book))) l (R .moment)) (nextOf l n s₂ results x)) f (next₂ R)) (tables₂ s₂ (W .only)) (after-split l n code st s results b some held G R₀ under s₁ r X count w s₂ g W a) (clean₂ s₂ (W .only))
           (bounds _ s₂ results (long₂ s₂ (W .only)) refl refl i (X .more .1) refl (omega arith) (omega arith) (omega arith) (omega arith) (omega arith) (omega arith) u))
 
   ended-bound : (f g : ℕ) → f ≤ 1 → g ≤ 1 → Bound (afterEnd (afterTurn (l .pool) st) f g) s₁ results
   ended-bound f g p q = let i = b .waiting in let u = b .written in let j = b .made in bounds _ s₁ results long₁ refl refl (omega arith) j refl (omega arith) (omega arith) (omega arith) (omega arith) (omega arith) (omega arith) u
 
   pub at-failed : r .what ≡ Failed → (st₂ : State) → st₂ ≡ afterEnd (afterTurn (l .pool) st) 1 0 → StepTaken l n code st s s₁ results results (On st₂)
-  at-failed w st₂ i = quiet st₂ s₁ (ap (λ (x : State). x .written) i) (λ R. failed-next l n code st s results b some held G under s₁ r X R w st₂ i) tables₁ (Z₀ R₀ .clear) (Z₀ R₀ .clean) (subst (λ (x : State). Bound x s₁ results) (sym i) (ended-bound 1 0 (omega arith) (omega arith)))
+  at-failed w st₂ i = quiet st₂ s₁ (ap (λ (x : State). x .written) i) (λ R. failed-next l n code st s results b some held G under s₁ r X R w st₂ i) tables₁ (subst (λ (x : State). SearchedIn l n x s₁) (sym i) (after-end l n code st s results b some held G R₀ under s₁ r X 1 0)) (Z₀ R₀ .clean) (subst (λ (x : State). Bound x s₁ results) (sym i) (ended-bound 1 0 (omega arith) (omega arith)))
 
   pub at-misfit : r .what ≡ Misfit → (st₂ : State) → st₂ ≡ afterEnd (afterTurn (l .pool) st) 0 1 → StepTaken l n code st s s₁ results results (On st₂)
-  at-misfit w st₂ i = quiet st₂ s₁ (ap (λ (x : State). x .written) i) (λ R. misfit-next l n code st s results b some held G under s₁ r X R w st₂ i) tables₁ (Z₀ R₀ .clear) (Z₀ R₀ .clean) (subst (λ (x : State). Bound x s₁ results) (sym i) (ended-bound 0 1 (omega arith) (omega arith)))
+  at-misfit w st₂ i = quiet st₂ s₁ (ap (λ (x : State). x .written) i) (λ R. misfit-next l n code st s results b some held G under s₁ r X R w st₂ i) tables₁ (subst (λ (x : State). SearchedIn l n x s₁) (sym i) (after-end l n code st s results b some held G R₀ under s₁ r X 0 1)) (Z₀ R₀ .clean) (subst (λ (x : State). Bound x s₁ results) (sym i) (ended-bound 0 1 (omega arith) (omega arith)))
 
   pub at-full : r .what ≡ NoneLeft → StepTaken l n code st s s₁ results results (Ended NoNodes)
-  at-full w = halted NoNodes s₁ results refl (λ R. full-next l n code st s results b some held G under s₁ r X R w s₁ results) tables₁ (Z₀ R₀ .clear) (Z₀ R₀ .clean)
+  at-full w = halted NoNodes s₁ results refl (λ R. full-next l n code st s results b some held G under s₁ r X R w s₁ results) tables₁ (Z₀ R₀ .clean)
 
   pub at-lost : r .what ≡ Lost → StepTaken l n code st s s₁ results results (Ended NoNodes)
   at-lost w = absurd (never-lost l n code st s results b some held G under s₁ r X R₀ w)
@@ -186,14 +181,11 @@ module _ (l : e.Limits) (n : ℕ) (code : List ℕ) (st : State) (s results : Li
       tables₃ : (R : Runs l n code st s results) → Has (compile (R .book)) (20 * l .pool) (restOf (l .nodes) s₂)
       tables₃ R = subst (Has (compile (R .book)) (20 * l .pool)) (sym (W .kept .rest)) (tables₁ R)
 
-      clear₃ : Clear (l .nodes) s₂
-      clear₃ = W .kept .marks ∙ Z₀ R₀ .clear
-
       go : (a : Bool) → leb (st .written + length record₁) (l .results) ≡ a → StepTaken l n code st s s₂ results results₂ g
       go false a =
           let f : g ≡ Ended NoRoom = W .is ∙ rw a in
           subst (StepTaken l n code st s s₂ results results₂) (sym f)
-          (halted NoRoom s₂ results₂ (W .none a) (λ R. subst (λ (x : Stepped). StandsNext (R .book) (R .fine) l (e.step (m.turn (compile (R .book))) l (R .moment)) (nextOf l n s₂ results₂ x)) f (next₂ R)) tables₃ clear₃ (W .clean))
+          (halted NoRoom s₂ results₂ (W .none a) (λ R. subst (λ (x : Stepped). StandsNext (R .book) (R .fine) l (e.step (m.turn (compile (R .book))) l (R .moment)) (nextOf l n s₂ results₂ x)) f (next₂ R)) tables₃ (W .clean))
       go true a =
           let f : g ≡ On (afterValue (afterTurn (l .pool) st) (st .written + length record₁)) = W .is ∙ rw a in
           let i = b .waiting in let u : st .written + length record₁ ≤ l .results = leb-true _ _ a in let j = b .made in let v = b .lent in let k = b .written in
@@ -203,7 +195,7 @@ module _ (l : e.Limits) (n : ℕ) (code : List ℕ) (st : State) (s results : Li
           subst (StepTaken l n code st s s₂ results results₂) (sym f) (record {
             next = λ R. subst (λ (x : Stepped). StandsNext (R .book) (R .fine) l (e.step (m.turn (compile (R .book))) l (R .moment)) (nextOf l n s₂ results₂ x)) f (next₂ R);
             tables = tables₃;
-            clear = clear₃;
+            searched = λ st′ o. subst (λ (x : State). SearchedIn l n x s₂) (on-is (afterValue (afterTurn (l .pool) st) (st .written + length record₁)) st′ o) (after-value l n code st s results b some held G R₀ under s₁ r X (st .written + length record₁) s₂ (W .kept));
             clean = W .clean;
             bounded = λ st′ o. subst (λ (x : State). Bound x s₂ results₂) (on-is (afterValue (afterTurn (l .pool) st) (st .written + length record₁)) st′ o) (bounds _ s₂ results₂ (W .kept .long ∙ long₁) y refl (omega arith) j refl (omega arith) (omega arith) (omega arith) (omega arith) (omega arith) (omega arith) u);
             before = ap (take (st .written)) (W .bytes a ∙ append-assoc (take (st .written) results) record₁ (drop (st .written + length record₁) results)) ∙ take-at (take (st .written) results) (record₁ ++ drop (st .written + length record₁) results) (st .written) p;

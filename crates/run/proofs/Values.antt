@@ -68,7 +68,7 @@ first-others [] h = absurd (omega arith)
 first-others (x ∷ xs) h = refl
 
 -- a pool in memories whose links and rest are the same
-pool-same : (L places n head waiting : ℕ) (s s′ : List ℕ) → n ≤ 9 → head < places → waiting ≤ places → restOf L s′ ≡ restOf L s → linksOf L s′ ≡ linksOf L s → poolOf L places n head waiting s′ ≡ poolOf L places n head waiting s
+pub pool-same : (L places n head waiting : ℕ) (s s′ : List ℕ) → n ≤ 9 → head < places → waiting ≤ places → restOf L s′ ≡ restOf L s → linksOf L s′ ≡ linksOf L s → poolOf L places n head waiting s′ ≡ poolOf L places n head waiting s
 pool-same L places n head waiting s s′ f h w p q = pool-kept L places n head waiting s s′ f h w (ap (take (20 * places)) p) (λ x u. ap (λ (k : List ℕ). getD k x 0) q)
 
 module _ (l : e.Limits) (n : ℕ) (code : List ℕ) (st : State) (s results : List ℕ) (b : Bounded l n st s results) (some : 1 ≤ st .waiting) (held : Held) (G : RowGot (l .nodes) n (st .head) s held)

@@ -1,10 +1,10 @@
 -- A run between its turns, as the code has it; one step; and the run from a state on.
--- Here, in order: the state as a moment of the run on the store; numbers in their bounds; what a state stands for; what a step gives; what a run from a state gives.
+-- Here, in order: the state as a moment of the run on the store; numbers in their bounds; what searches left; what a state stands for; what a step gives; what a run from a state gives.
 -- Not here: the moments and their steps (engine, Run; standing, Shared), and when they stand for one another (standing, Moments).
 -- Assumes nothing.
 use Prim.Native.Nat.{ℕ, suc, _+_, _*_, _≤_, _<_}
 use mathlib.Core.Path.{_≡_}
-use mathlib.Core.List.{List}
+use mathlib.Core.List.{List, List·Memᴰ}
 use lib.ListN.{length, take, drop}
 use Rattle.book.specs.Syntax.{Book}
 use Rattle.book.specs.Accepted as A
@@ -16,7 +16,7 @@ use Rattle.engine.specs.Run as e
 use Rattle.agreement.proofs.Calls.{FineBook}
 use Rattle.standing.specs.Shared.{StoreMoment, storeMoment, StoreNext, storeEnds, storeNext}
 use Rattle.standing.specs.Moments.{StandsFor, StandsNext}
-use Rattle.seek.specs.Walkable.{Clear}
+use Rattle.seek.specs.Path.{ClosedIn, ResumesIn}
 use Rattle.copier.specs.Listed.{Clean}
 use Rattle.machine.specs.Tables.{Has}
 use Rattle.pool.specs.Ring.{poolOf}
@@ -58,7 +58,15 @@ pub record Bounded (l : e.Limits) (n : ℕ) (st : State) (s results : List ℕ) 
   pub others : (st .split ≤ st .turns) × (st .values ≤ st .turns) × (st .failed ≤ st .turns) × (st .misfits ≤ st .turns)
   pub written : st .written ≤ l .results
 
--- The state stands for a moment of the definition's run of an accepted book, whose code and tables are there; no node is marked and none has a place.
+-- what searches left between turns: the marks of all nodes, and for each computation where the search from its value goes on
+pub record AllSearched (L made : ℕ) (cs : List m.Held) (s : List ℕ) : Type 0 where
+  pub closed : ClosedIn L made s
+  pub resumes : (c : m.Held) → List·Memᴰ c cs → ResumesIn L made s (c .value)
+
+abbrev pub SearchedIn : e.Limits → ℕ → State → List ℕ → Type 0
+SearchedIn l n st s = AllSearched (l .nodes) (st .made) (poolOf (l .nodes) (l .pool) n (st .head) (st .waiting) s) s
+
+-- The state stands for a moment of the definition's run of an accepted book, whose code and tables are there; searches can go on where they stopped, and no node has a place.
 pub record Runs (l : e.Limits) (n : ℕ) (code : List ℕ) (st : State) (s results : List ℕ) : Type 0 where
   pub book : Book
   pub accepted : A.FineBook book
@@ -67,7 +75,7 @@ pub record Runs (l : e.Limits) (n : ℕ) (code : List ℕ) (st : State) (s resul
   pub tables : Has (compile book) (20 * l .pool) (restOf (l .nodes) s)
   pub moment : e.Moment m.Kept
   pub stands : StandsFor book fine l moment (momentOf l n st s results)
-  pub clear : Clear (l .nodes) s
+  pub searched : SearchedIn l n st s
   pub clean : Clean (l .nodes) s
 
 -- how many bytes of results there are after a step
@@ -81,7 +89,7 @@ writtenBy st (On st′) = st′ .written
 pub record StepTaken (l : e.Limits) (n : ℕ) (code : List ℕ) (st : State) (s s′ results results′ : List ℕ) (r : Stepped) : Type 0 where
   pub next : (R : Runs l n code st s results) → StandsNext (R .book) (R .fine) l (e.step (m.turn (compile (R .book))) l (R .moment)) (nextOf l n s′ results′ r)
   pub tables : (R : Runs l n code st s results) → Has (compile (R .book)) (20 * l .pool) (restOf (l .nodes) s′)
-  pub clear : Clear (l .nodes) s′
+  pub searched : (st′ : State) → r ≡ On st′ → SearchedIn l n st′ s′
   pub clean : Clean (l .nodes) s′
   pub bounded : (st′ : State) → r ≡ On st′ → Bounded l n st′ s′ results′ × (st′ .turns ≡ suc (st .turns)) × (st .written ≤ st′ .written)
   pub before : take (st .written) results′ ≡ take (st .written) results

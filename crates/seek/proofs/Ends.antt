@@ -1,153 +1,211 @@
--- The walk at the bytes: its start, its turns, its end; the marks taken back.
--- Here, in order: a turn of the loop; the end of the loop; a mark taken back, and all; the start.
+-- The search at the bytes: a turn of the walk, its start, and what it leaves.
+-- Here, in order: a turn of the loop; a constructor stands for itself; where the walk starts; the search that finds nothing or a call at once; the root keeps the path's top.
 -- Assumes nothing.
-use Prim.Native.Nat.{ℕ, zero, suc, _-_, _*_, _≤_, _<_}
+use Prim.Native.Nat.{ℕ, suc, _+_, _-_, _*_, _≤_, _<_}
 use native.Mathlib.Omega.{arith}
-use native.Mathlib.Decide.{ℕ-discrete, decLt}
+use native.Mathlib.Numerals.{add-one}
+use native.Mathlib.Nat.{mul-le-mul}
 use mathlib.Core.Path.{_≡_, refl, sym, ap, _∙_, subst}
-use mathlib.Core.Logic.{_⊎_, inl, inr, _≢_}
+use mathlib.Core.Logic.{_⊎_, inl, inr, ⊎-elim, _≢_}
 use mathlib.Core.Option.{none, some}
-use mathlib.Core.List.{List, _∷_, List·Memᴰ, List·Memᴰ·tail, List·Memᴰ·head, List·Memᴰ·not-nil, List·Memᴰ·cases-cons}
-use lib.ListN.{length, getD, set, replicate, length-set, length-replicate, getD-replicate, List·getD-eq-default}
-use lib.Seq.{getD-set-same, getD-set-other, ext-getD}
+use mathlib.Core.List.{List, List·Memᴰ}
+use lib.ListN.{length, getD, set}
+use lib.Seq.{getD-set-same, getD-set-other}
 use Rattle.mem.specs.Words.{words}
-use Rattle.heap.specs.Graph.{Graph, follow, firstCall}
+use Rattle.book.specs.Syntax.{con}
+use Rattle.heap.specs.Graph.{Graph, cell, var, node, follow, look, args, firstCall}
+use Rattle.heap.specs.Place.{here, there}
+use Rattle.heap.proofs.Laws.Alike.{leads-follow}
 use Rattle.store.specs.declared.NodeNo.{NodeNo}
-use Rattle.store.specs.Regions.{graphOf, marksOf, listOf, Memory, memory, Did, setMark, stack}
+use Rattle.store.specs.Regions.{graphOf, marksOf, linksOf, Memory}
 use Rattle.store.proofs.Laws.{length-graph}
+use Rattle.store.proofs.Writes.{length-marks, length-links}
+use Rattle.seek.specs.Walkable.{Walkable}
+use Rattle.seek.specs.Path.{To, Shut, Closed, Open, Trail, lowest, Place}
+use Rattle.seek.specs.Search.{IsQuiet, IsCell, IsCall, Up, Down, Hits, Finished, Came, Leaves, Walks, Reached, Went, TopAt, Held, Resumable, Sought}
 use Rattle.seek.specs.declared.Turn.{Turn}
-use Rattle.seek.specs.declared.Turn.the-variants.{On, Hit}
-use Rattle.seek.specs.Walkable.{Walkable, Clear, Still, Sought}
-use Rattle.seek.specs.Walk.{on, hit, visited, turned, outcome, Came, Fit, listed, Listed}
-use Rattle.seek.specs.Lead.{lead, heads, stacked, touched, Walks, left}
-use Rattle.seek.proofs.Keeps.{bare, walks-fit}
-use Rattle.seek.proofs.Steps.{After, visit-ok, turn-ok}
-use Rattle.seek.proofs.Laws.{sizes, still-of}
+use Rattle.seek.specs.declared.Turn.the-variants.{On, Hit, Over}
+use Rattle.seek.specs.declared.Find.the-variants.{At, Nothing}
+use Rattle.seek.specs.declared.Walked.{Walked}
+use Rattle.seek.proofs.Finds.{find-fun}
+use Rattle.seek.proofs.Ranks.{height}
+use Rattle.seek.proofs.Shuts.{to-made, quiet-shut, shut-none, shut-more, word-at}
+use Rattle.seek.proofs.Trails.{trail-base, trail-lowest, trail-kept}
+use Rattle.seek.proofs.Steps.{Going, going-up, going-down}
 
-graph-same : (L : ℕ) (s s′ : List ℕ) → bare (memory L s′) ≡ bare (memory L s) → graphOf L s′ ≡ graphOf L s
-graph-same L s s′ e = ap (λ (m : Memory). m .graph) e
-
-pub same-call : (L r : ℕ) (s s′ : List ℕ) → bare (memory L s′) ≡ bare (memory L s) → firstCall L (graphOf L s′) r ≡ firstCall L (graphOf L s) r
-same-call L r s s′ e = ap (λ (g : Graph). firstCall L g r) (graph-same L s s′ e)
-
--- a turn of the loop, with d frames
-module _ (L r d c : ℕ) (s : List ℕ) (pos : 0 < d) (W : Walks L r none (memory L s) d c) where
-  is-suc : suc (d - 1) ≡ d
-  is-suc = omega arith
-
-  W₁ : Walks L r none (memory L s) (suc (d - 1)) c
-  W₁ = rw is-suc W
-
-  pub fit-at : Fit L (memory L s) (d - 1) c
-  fit-at = walks-fit W₁
-
-  module _ (s′ : List ℕ) (t : Turn) (C : Came L s s′ t (turned (memory L s) (d - 1) c)) where
-    pub on-again : (e k : ℕ) → t ≡ On e k → Walks L r none (memory L s′) e k × (bare (memory L s′) ≡ bare (memory L s)) × (left L (memory L s′) e k < left L (memory L s) d c)
-    unfolding outcome After
-    on-again e k q =
-        let b : After L r (memory L s) c (left L (memory L s) (suc (d - 1)) c) (on (memory L s′) e k) = subst (After L r (memory L s) c (left L (memory L s) (suc (d - 1)) c)) (sym (C .is) ∙ ap (outcome L s′) q) (turn-ok W₁) in
-        (b .0, b .1, subst (λ (n : ℕ). left L (memory L s′) e k < left L (memory L s) n c) is-suc (b .2))
-
-    pub hit-at : (n : NodeNo) → t ≡ Hit n → (some (n .0) ≡ firstCall L (graphOf L s) r) × (bare (memory L s′) ≡ bare (memory L s)) × Listed L (memory L s′) c
-    unfolding outcome After
-    hit-at n q =
-        let b : After L r (memory L s) c (left L (memory L s) (suc (d - 1)) c) (hit (memory L s′) (n .0)) = subst (After L r (memory L s) c (left L (memory L s) (suc (d - 1)) c)) (sym (C .is) ∙ ap (outcome L s′) q) (turn-ok W₁) in
-        (sym (b .0) ∙ same-call L r s s′ (b .1), b .1, b .2)
-
--- no frame is left
-pub none-left : (L r d c : ℕ) (s : List ℕ) → d ≤ 0 → Walks L r none (memory L s) d c → none ≡ firstCall L (graphOf L s) r
-unfolding lead stack
-none-left L r zero c s h W = sym (W .led)
-none-left L r (suc d) c s h W = absurd (omega arith)
-
--- a mark taken back
-module _ (L c n : ℕ) (s : List ℕ) (pos : 0 < c) (Q : Listed L (memory L s) c) (e : n ≡ getD (listOf L s) (c - 1) 0) where
-  split : listed c (listOf L s) ≡ n ∷ listed (c - 1) (listOf L s)
-  split = let q : c ≡ suc (c - 1) = omega arith in ap (λ (k : ℕ). listed k (listOf L s)) q ∙ (unfold listed in (rw e))
-
-  pub last-in : n < L
-  last-in = Q .inside n (rw split (List·Memᴰ·head refl))
-
-  pub unlisted : (s′ : List ℕ) → Did L s s′ (setMark n 0) → Listed L (memory L s′) (c - 1)
-  unlisted s′ w =
-      let a : marksOf L s′ ≡ set (marksOf L s) n 0 = ap (λ (m : Memory). m .marks) (w .is) in
-      let b : listOf L s′ ≡ listOf L s = ap (λ (m : Memory). m .list) (w .is) in
-      let f = Q .few in
-      record {
-        few = omega arith;
-        long = rw (a, length-set) (Q .long);
-        inside = λ k m. Q .inside k (rw split (List·Memᴰ·tail (rw b at m)));
-        marked = λ k z. rw b (rest k (ℕ-discrete k n) (rw a at z));
-      }
+-- a turn of the loop
+module _ {L r b t₀ : ℕ} {s₀ : List ℕ} (W : Walks L r b t₀ s₀) {s : List ℕ} {t left : ℕ} (J : Going W s t left) (room : 16 * L ≤ length (words s₀)) where
+  pub came-on : (s′ : List ℕ) (x : Turn) → Came L b t s s′ x → (n : NodeNo) → x ≡ On n → Going W s′ (n .0) (left - 1)
+  came-on s′ x C n e = go (subst (Came L b t s s′) e C)
     where
-      tail-of : (k : ℕ) → k ≢ n → (k ≡ n) ⊎ List·Memᴰ k (listed (c - 1) (listOf L s)) → List·Memᴰ k (listed (c - 1) (listOf L s))
-      tail-of k q (inl u) = absurd (q u)
-      tail-of k q (inr m) = m
+      go : Up L t s s′ (n .0) ⊎ Down L b t s s′ (n .0) → Going W s′ (n .0) (left - 1)
+      go (inl u) = going-up W J u room
+      go (inr d) = going-down W J (d .finished) room (d .above) (d .linked)
 
-      rest : (k : ℕ) → Dec (k ≡ n) → getD (set (marksOf L s) n 0) k 0 ≢ 0 → List·Memᴰ k (listed (c - 1) (listOf L s))
-      rest k (yes q) z = absurd (z (rw q (getD-set-same (marksOf L s) n 0 0 (omega (arith, Q .long, last-in)))))
-      rest k (no q) z = tail-of k q (List·Memᴰ·cases-cons (rw split at (Q .marked k (λ y. z (getD-set-other (marksOf L s) n k 0 0 q ∙ y)))))
+pub came-long : (L b t : ℕ) (s s′ : List ℕ) (x : Turn) → Came L b t s s′ x → length (words s′) ≡ length (words s)
+came-long L b t s s′ (On n) C = ⊎-elim (λ u. u .did .long) (λ d. d .finished .did .long) C
+came-long L b t s s′ (Hit h) C = C .long
+came-long L b t s s′ Over C = C .0 .did .long
 
-pub mark-still : (L n v : ℕ) (s s′ : List ℕ) → Did L s s′ (setMark n v) → bare (memory L s′) ≡ bare (memory L s)
-mark-still L n v s s′ w = ap bare (w .is)
+pub came-hit : (L b t : ℕ) (s s′ : List ℕ) (x : Turn) → Came L b t s s′ x → (h : NodeNo) → x ≡ Hit h → Hits L t s s′ (h .0)
+came-hit L b t s s′ x C h e = subst (Came L b t s s′) e C
 
--- none on the list: none is marked
-pub all-clear : (L c : ℕ) (s : List ℕ) → c ≤ 0 → Listed L (memory L s) c → Clear L s
-unfolding listed
-all-clear L (suc c) s h Q = absurd (omega arith)
-all-clear L zero s h Q = ext-getD 0 (marksOf L s) (replicate L 0) (Q .long ∙ sym (length-replicate L 0)) (λ i l. zeros i (rw (Q .long) at l) (ℕ-discrete (getD (marksOf L s) i 0) 0))
-  where
-    zeros : (i : ℕ) → i < L → Dec (getD (marksOf L s) i 0 ≡ 0) → getD (marksOf L s) i 0 ≡ getD (replicate L 0) i 0
-    zeros i l (yes q) = q ∙ sym (getD-replicate L i 0 0 l)
-    zeros i l (no q) = absurd (List·Memᴰ·not-nil (Q .marked i q))
+pub came-over : (L b t : ℕ) (s s′ : List ℕ) (x : Turn) → Came L b t s s′ x → x ≡ Over → Finished L t s s′ × (t ≡ b)
+came-over L b t s s′ x C e = subst (Came L b t s s′) e C
 
--- the start
-module _ (L r : ℕ) (s : List ℕ) (room : 16 * L ≤ length (words s)) (K : Walkable (graphOf L s) r) (clear : Clear L s) where
-  no-mark : (n : ℕ) → getD (marksOf L s) n 0 ≡ 0
-  no-mark n = rw clear (go (decLt n L))
-    where
-      len : length (replicate {A = ℕ} L 0) ≡ L
-      len = length-replicate L 0
+-- the counter fits
+pub product : (L : ℕ) → L ≤ 32768 → L * (L + 1) ≤ 32768 * 32769
+product L h = mul-le-mul {n₁ = L} {m₁ = L + 1} {n₂ = 32768} {m₂ = 32769} h (omega arith)
 
-      go : Dec (n < L) → getD {A = ℕ} (replicate L 0) n 0 ≡ 0
-      go (yes h) = getD-replicate L n 0 0 h
-      go (no h) = List·getD-eq-default (replicate L 0) 0 (omega (arith, len))
+-- a constructor stands for itself
+self : {made : ℕ} {g : Graph} {e k : ℕ} → To made g e k → (y : ℕ) (hs : List ℕ) → node g k ≡ cell (con y) hs → k ≡ e
+self (here p q n) y hs u = q
+self (there p j q l) y hs u = let z : _≡_ {A = ℕ} 0 1 = cc in absurd (omega arith)
 
-  start : Walks L r (firstCall L (graphOf L s) r) (memory L s) 0 0
-  unfolding touched stacked lead heads stack listed
-  start = record {
-    own = K .own;
-    roots = K .roots;
-    part = K .part;
-    sized = sizes L s room;
-    finished = λ n z. absurd (z (no-mark n));
-    marked = λ n z. absurd (z (no-mark n));
-    kept = λ n m. absurd (List·Memᴰ·not-nil m);
-    distinct = tt;
-    inside = λ n m. absurd (List·Memᴰ·not-nil m);
-    frames = tt;
-    led = refl;
-  }
+module _ (L r : ℕ) (s : List ℕ) (G : Resumable L r s) where
+  abbrev g : Graph
+  g = graphOf L s
 
-  pub root-in : (0 < L) × (follow (graphOf L s) r < L)
-  root-in =
-      let a = K .part .inside (follow (graphOf L s) r) (K .part .ended r (K .handle)) in
-      let b = length-graph L s in
-      (omega arith, omega arith)
+  way : To (G .made) g (follow g r) r
+  way = to-made (G .ground) (G .ground .handle)
 
-  begun : After L r (memory L s) 0 (suc (left L (memory L s) 0 0)) (visited (memory L s) 0 0 r)
-  unfolding heads stack start
-  begun = visit-ok (memory L s) (suc (left L (memory L s) 0 0)) r start (K .handle) (λ y m. absurd (List·Memᴰ·not-nil m)) refl (omega arith)
+  pub root-walk : Walkable g r
+  root-walk = record { own = G .own; roots = G .roots; part = G .ground .part; handle = G .ground .handle }
 
-  module _ (s′ : List ℕ) (t : Turn) (C : Came L s s′ t (visited (memory L s) 0 0 r)) where
-    pub begun-on : (d c : ℕ) → t ≡ On d c → Walks L r none (memory L s′) d c × Still L s s′
-    unfolding outcome After
-    begun-on d c q =
-        let b : After L r (memory L s) 0 (suc (left L (memory L s) 0 0)) (on (memory L s′) d c) = subst (After L r (memory L s) 0 (suc (left L (memory L s) 0 0))) (sym (C .is) ∙ ap (outcome L s′) q) begun in
-        (b .0, still-of L s s′ (b .1) (C .long))
+  pub root-in : r < L
+  root-in = let a = G .ground .part .inside r (G .ground .handle) in let l = length-graph L s in omega arith
 
-    pub begun-hit : (n : NodeNo) → t ≡ Hit n → (some (n .0) ≡ firstCall L (graphOf L s) r) × Sought L s s′
-    unfolding outcome After
-    begun-hit n q =
-        let b : After L r (memory L s) 0 (suc (left L (memory L s) 0 0)) (hit (memory L s′) (n .0)) = subst (After L r (memory L s) 0 (suc (left L (memory L s) 0 0))) (sym (C .is) ∙ ap (outcome L s′) q) begun in
-        (sym (b .0) ∙ same-call L r s s′ (b .1), record { still = still-of L s s′ (b .1) (C .long); clear = all-clear L 0 s′ (omega arith) (b .2) })
+  leaves-none : Leaves L (G .made) (G .own) s s
+  leaves-none = record { graph = refl; places = refl; rest = refl; long = refl; marks = λ x o. refl; links = λ x o. refl; finished = λ x e. e; closed = G .closed }
+
+  -- nothing is written
+  pub sought-none : Sought L (G .made) (G .own) r s s
+  sought-none = record { leaves = leaves-none; resumes = G .resumes }
+
+  pub quiet-none : IsQuiet g (marksOf L s) r → none ≡ firstCall L g r
+  quiet-none q = sym (shut-none (G .closed) L (quiet-shut (G .ground) (G .ground .handle) q))
+
+  pub call-some : (n : ℕ) → IsCall g r n → some n ≡ firstCall L g r
+  call-some n q = sym (find-fun (G .ground .part) L (length-graph L s) r (q .name) (args (look g r)) (G .ground .handle) (q .is) ∙ ap some (sym (q .at)))
+
+  -- where the walk starts
+  module _ (b : ℕ) (X : IsCell g (marksOf L s) r b) where
+    base-con : node g b ≡ cell (con (X .name)) (args (node g b))
+    unfolding look
+    base-con = subst (λ (x : ℕ). node g x ≡ cell (con (X .name)) (args (node g x))) (sym (X .at)) (X .is)
+
+    not-shut : Shut (G .made) g (marksOf L s) r → ⊥
+    not-shut S =
+        let e : b ≡ S .end = X .at ∙ leads-follow (λ x. x < G .made) g (S .end) (S .leads) in
+        ⊎-elim (λ v. (let w : node g b ≡ var = ap (node g) e ∙ v in let u = base-con in let z : _≡_ {A = ℕ} 0 1 = cc in omega arith)) (λ v. X .unfinished (ap (λ (x : ℕ). getD (marksOf L s) x 0) e ∙ v)) (S .quiet)
+
+    place : getD (marksOf L s) r 0 ≡ 1 → Place (G .made) g (marksOf L s) (linksOf L s) r
+    place m = ⊎-elim (λ S. absurd (not-shut S)) (λ p. p) (G .resumes m)
+
+    pub root-linked : getD (marksOf L s) r 0 ≡ 1 → 1 ≤ getD (linksOf L s) r 0
+    root-linked m = let p = place m .linked in omega arith
+
+    pub start-walks : (t : ℕ) → TopAt L r b s t → Walks L r b t s
+    start-walks t T = record { made = G .made; own = G .own; roots = G .roots; ground = G .ground; closed = G .closed; trail = ⊎-elim old new T }
+      where
+        old : (getD (marksOf L s) r 0 ≡ 1) × (getD (linksOf L s) r 0 ≡ suc t) → Trail (G .made) g (marksOf L s) (linksOf L s) r b t
+        old (m, k) =
+            let p = place m in
+            let q = p .linked in
+            let a : p .base ≡ b = sym (leads-follow (λ x. x < G .made) g (p .base) (trail-base (G .ground) (p .trail))) ∙ sym (X .at) in
+            let c : p .top ≡ t = omega arith in
+            subst (λ (x : ℕ). Trail (G .made) g (marksOf L s) (linksOf L s) r b x) c (subst (λ (x : ℕ). Trail (G .made) g (marksOf L s) (linksOf L s) r x (p .top)) a (p .trail))
+
+        new : (getD (marksOf L s) r 0 ≢ 1) × (t ≡ b) → Trail (G .made) g (marksOf L s) (linksOf L s) r b t
+        new (m, e) = subst (Trail (G .made) g (marksOf L s) (linksOf L s) r b) (sym e)
+            (lowest (record { name = X .name; con = base-con; unfinished = X .unfinished }) (subst (λ (x : ℕ). To (G .made) g x r) (sym (X .at)) way))
+
+    -- after the walk
+    module _ (t : ℕ) (T : TopAt L r b s t) (s₁ : List ℕ) (w : Walked) (Y : Went L r b t s s₁ w) where
+      abbrev W : Walks L r b t s
+      W = start-walks t T
+
+      abbrev M : List ℕ
+      M = marksOf L s₁
+
+      abbrev K : List ℕ
+      K = linksOf L s₁
+
+      Q : Leaves L (G .made) (G .own) s s₁
+      unfolding start-walks
+      Q = Y .leaves W
+
+      -- nothing was found
+      pub sought-nothing : w .find ≡ Nothing → Sought L (G .made) (G .own) r s s₁
+      unfolding start-walks
+      sought-nothing e = record { leaves = Q; resumes = λ m. inl (record { end = follow g r; leads = way; quiet = inr (subst (λ (x : ℕ). getD M x 0 ≡ 2) (X .at) done) }) }
+        where
+          done : getD M b 0 ≡ 2
+          done = subst (Reached L (G .made) r b s s₁ (w .top .0)) e (Y .reached W)
+
+      -- a call was found
+      module _ (n : NodeNo) (e : w .find ≡ At n) (s₂ : List ℕ) (D : Held L r (w .top .0) s₁ s₂) (room : 16 * L ≤ length (words s)) where
+        trail₁ : Trail (G .made) g M K r b (w .top .0)
+        unfolding start-walks
+        trail₁ = subst (Reached L (G .made) r b s s₁ (w .top .0)) e (Y .reached W)
+
+        marks₂ : marksOf L s₂ ≡ set M r 1
+        marks₂ = ap (λ (m : Memory). m .marks) (D .is)
+
+        links₂ : linksOf L s₂ ≡ set K r (w .top .0 + 1)
+        links₂ = ap (λ (m : Memory). m .links) (D .is)
+
+        long-marks : r < length M
+        long-marks = let l = length-marks L s₁ (let q = Y .long in omega arith) in let i = root-in in omega arith
+
+        long-links : r < length K
+        long-links = let l = length-links L s₁ (let q = Y .long in omega arith) in let i = root-in in omega arith
+
+        open-base : Open g M b
+        open-base = trail-lowest (G .ground) trail₁
+
+        -- a root that is a constructor is the lowest node
+        root-base : (y : ℕ) (hs : List ℕ) → node g r ≡ cell (con y) hs → r ≡ b
+        root-base y hs u = self way y hs u ∙ sym (X .at)
+
+        root-open : getD M r 0 ≢ 2
+        root-open q = let y = Q .closed .name r q in open-base .unfinished (subst (λ (x : ℕ). getD M x 0 ≡ 2) (root-base (y .0) (args (node g r)) (y .1)) q)
+
+        more : (x : ℕ) → getD M x 0 ≡ 2 → getD (set M r 1) x 0 ≡ 2
+        more x q = getD-set-other M r x 1 0 (λ u. root-open (subst (λ (y : ℕ). getD M y 0 ≡ 2) u q)) ∙ q
+
+        less : (x : ℕ) → getD (set M r 1) x 0 ≡ 2 → getD M x 0 ≡ 2
+        less x q = ⊎-elim (λ u. (let v = u .1 in absurd (omega arith))) (λ u. sym (u .1) ∙ q) (word-at M r 1 x long-marks)
+
+        own-root : List·Memᴰ r (G .own)
+        own-root = G .ground .part .ours r (G .ground .handle)
+
+        apart : (x : ℕ) → ¬ (List·Memᴰ x (G .own)) → x ≢ r
+        apart x o u = o (subst (λ (y : ℕ). List·Memᴰ y (G .own)) (sym u) own-root)
+
+        closed₂ : Closed (G .made) g (set M r 1)
+        closed₂ = record {
+          new = λ x h. getD-set-other M r x 1 0 (λ u. (let v = G .ground .below r own-root in omega arith)) ∙ Q .closed .new x h;
+          name = λ x q. Q .closed .name x (less x q);
+          under = λ x q k m. shut-more more (Q .closed .under x (less x q) k m);
+        }
+
+        trail₂ : Trail (G .made) g (set M r 1) (set K r (w .top .0 + 1)) r b (w .top .0)
+        trail₂ = trail-kept (G .ground) (record { shut = λ k S. shut-more more S; cells = λ x h o. refl; leads = λ x k o l. l }) trail₁ (λ x i o h q. o .unfinished (less x q))
+            (λ x i o h c. getD-set-other K r x (w .top .0 + 1) 0 (λ u. (let v : x ≡ b = u ∙ root-base (o .name) (args (node g x)) (subst (λ (y : ℕ). node g y ≡ cell (con (o .name)) (args (node g x))) u (o .con)) in let z = ap (height (G .ground .part)) v in omega arith)))
+
+        pub sought-call : Sought L (G .made) (G .own) r s s₂
+        sought-call = record {
+          leaves = record {
+            graph = ap (λ (m : Memory). m .graph) (D .is) ∙ Q .graph;
+            places = ap (λ (m : Memory). m .places) (D .is) ∙ Q .places;
+            rest = ap (λ (m : Memory). m .rest) (D .is) ∙ Q .rest;
+            long = D .long ∙ Q .long;
+            marks = λ x o. ap (λ (l : List ℕ). getD l x 0) marks₂ ∙ getD-set-other M r x 1 0 (apart x o) ∙ Q .marks x o;
+            links = λ x o. ap (λ (l : List ℕ). getD l x 0) links₂ ∙ getD-set-other K r x (w .top .0 + 1) 0 (apart x o) ∙ Q .links x o;
+            finished = λ x q. ap (λ (l : List ℕ). getD l x 0) marks₂ ∙ more x (Q .finished x q);
+            closed = subst (Closed (G .made) g) (sym marks₂) closed₂;
+          };
+          resumes = λ m. inr (subst (λ (l : List ℕ). Place (G .made) g l (linksOf L s₂) r) (sym marks₂) (subst (λ (l : List ℕ). Place (G .made) g (set M r 1) l r) (sym links₂)
+              (record { base = b; top = w .top .0; linked = getD-set-same K r (w .top .0 + 1) 0 long-links ∙ add-one (w .top .0); trail = trail₂ })));
+        }

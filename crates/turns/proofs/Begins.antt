@@ -1,44 +1,47 @@
 -- Where a turn begins: the settled stack, or the value's first call.
 -- Here, in order: the value's handle; what the search relies on; the settled stack; the first call; none.
 -- Assumes nothing.
-use Prim.Native.Nat.{ℕ, zero, suc, _+_, _-_, _*_, _≤_, _<_}
+use Prim.Native.Nat.{ℕ, suc, _+_, _-_, _*_, _≤_, _<_}
 use native.Mathlib.Omega.{arith}
 use native.Mathlib.Numerals.{add-one}
 use mathlib.Core.Path.{_≡_, refl, sym, ap, _∙_, subst}
 use mathlib.Core.Logic.{_⊎_, inl, inr}
 use mathlib.Core.Bool.{true, false}
-use mathlib.Core.Option.{Option, none, some}
-use mathlib.Core.List.{List, [], _∷_, _++_, List·Memᴰ, List·Memᴰ·head, List·Memᴰ·not-nil}
+use mathlib.Core.Option.{some}
+use mathlib.Core.List.{List, [], _∷_, List·Memᴰ, List·Memᴰ·head, List·Memᴰ·not-nil}
 use lib.Dec.{T}
-use lib.ListN.{length, getD, take, drop}
+use lib.ListN.{length, getD}
 use lib.Seq.{getD-set-other, getD-take}
 use Rattle.mem.specs.Words.{words}
-use Rattle.heap.specs.Graph.{Graph, firstCall, writeEach}
+use Rattle.heap.specs.Graph.{Graph, node, look, firstCall, writeEach}
 use Rattle.heap.specs.Store.{Store, take1}
 use Rattle.heap.proofs.Laws.Few.{few}
 use Rattle.engine.specs.Compile.{Program, compile}
 use Rattle.engine.specs.Machine as m
-use Rattle.agreement.proofs.Fine.{Takes}
 use Rattle.standing.specs.Stands.{Ours}
-use Rattle.standing.specs.Part.{Part}
+use Rattle.standing.specs.Part.{rootsOf}
 use Rattle.standing.proofs.Stacks.{stack-distinct, each-ours}
-use Rattle.standing.proofs.Walks.{stands-part}
-use Rattle.store.specs.Regions.{Memory, graphOf, linksOf, storeOf, Did, setLink}
+use Rattle.store.specs.Regions.{Memory, graphOf, marksOf, linksOf, placesOf, restOf, storeOf, Did, setLink}
 use Rattle.store.specs.declared.NodeNo.{NodeNo}
 use Rattle.store.proofs.Laws.{length-graph}
 use Rattle.alternatives.proofs.Steps.{made-taken, nodes-are}
 use Rattle.machine.specs.View.{stackOf}
 use Rattle.machine.specs.Drive.{driveOn, Settled}
-use Rattle.seek.specs.Walkable.{Walkable, Clear, Sought, foundOf}
+use Rattle.seek.specs.Walkable.{foundOf}
+use Rattle.seek.specs.Path.{Closed, CallAt}
+use Rattle.seek.specs.Search.{Ground, Resumable, Sought, SoughtFrom}
+use Rattle.seek.proofs.Walkables.{found-calls}
+use Rattle.seek.proofs.Survives.{later-same, resumes-later}
 use Rattle.seek.specs.declared.Find.{Find}
 use Rattle.seek.specs.declared.Find.the-variants.{At, Nothing}
 use Rattle.pool.specs.declared.Held.{Held}
 use Rattle.pool.specs.Ring as p
 use Rattle.pool.specs.Ring.{Sized, heldIn}
-use Rattle.turns.specs.Front.{Standing, toldBy}
-use Rattle.turns.specs.Calls.{Stacked, OwnLinks, Begun}
+use Rattle.turns.specs.Front.{Standing, toldBy, valueIn, Searched}
+use Rattle.turns.specs.Calls.{Stacked, OwnLinks, OwnMarks}
+use Rattle.turns.proofs.Grounds.{stands-ground, searched-same}
 use Rattle.turns.proofs.Climbing.{stacked-settled, stacked-first, stacked-ours}
-use Rattle.turns.proofs.Links.{stack-same, stack-links, stack-none, stack-some, stack-push}
+use Rattle.turns.proofs.Links.{stack-same, stack-none, stack-some, stack-push}
 use Rattle.turns.proofs.Driving.{store-graph}
 
 pub true-false : true ≡ false → ⊥
@@ -64,7 +67,7 @@ module _ (L made : ℕ) (held : Held) (s : List ℕ) where
   c = heldIn L s held
 
   -- the value's handle is the first
-  value-is : Sized (held .roots) → c .value ≡ getD (held .roots .at) 0 0
+  pub value-is : Sized (held .roots) → c .value ≡ getD (held .roots .at) 0 0
   unfolding heldIn p.rootsOf
   value-is z = getD-take {A = ℕ} (held .roots .n) (held .roots .at) 0 0 (omega arith)
 
@@ -76,12 +79,13 @@ module _ (L made : ℕ) (held : Held) (s : List ℕ) where
     size : length (μ .nodes) ≡ L
     size = ap length (nodes-are L made s) ∙ length-graph L s
 
-    -- the search walks the computation's part of the store
-    pub standing-walk : Sized (held .roots) → (v : ℕ) → v ≡ getD (held .roots .at) 0 0 → Walkable (graphOf L s) v
-    standing-walk z v e =
-        let P = stands-part (S .stands) (S .sound .whole .good) in
-        subst (Walkable (graphOf L s)) (value-is z ∙ sym e) (subst (λ (g : Graph). Walkable g (c .value)) (nodes-are L made s)
-        (record { own = S .stands .world .owned; roots = c .value ∷ (c .askers ++ c .stack); part = P; handle = P .root (c .value) (List·Memᴰ·head refl) }))
+    -- the part of the store that is searched
+    pub ground : Sized (held .roots) → Ground made (graphOf L s) (S .stands .world .owned) (rootsOf c) (valueIn held)
+    ground z = subst (Ground made (graphOf L s) (S .stands .world .owned) (rootsOf c)) (value-is z) (stands-ground L made s (S .stands) (S .sound .whole .good))
+
+    -- what the search relies on
+    pub standing-search : Sized (held .roots) → Searched L made (valueIn held) s → Resumable L (valueIn held) s
+    standing-search z K = record { made = made; own = S .stands .world .owned; roots = rootsOf c; ground = ground z; closed = K .closed; resumes = K .resumes }
 
     short : length (stackOf L s (held .top)) ≤ L
     short = let i = few (length (μ .nodes)) (c .stack) (stack-distinct (S .book) (S .fine) (S .sound) (S .stands) .1) (λ x w. S .stands .holds .inQ x (each-ours (S .stands .holds) (S .kept .stack) (c .stack) (S .stands .helds .stack) x w)) in
@@ -99,12 +103,12 @@ module _ (L made : ℕ) (held : Held) (s : List ℕ) where
           subst (Stacked (S .book) (S .kept .comp .graph) (S .kept .comp .value) (S .stands .world) μ μ) (sym (x .2)) (stacked-settled (S .book) (S .fine) (S .sound) (S .stands) (x .0) (x .1) (settled t q ∙ x .2)),
         )
 
-    module _ (z : Sized (held .roots)) (t : ℕ) (none-left : t ≤ 0) (q : Settled L s (held .top) t) (f : Find) (v : ℕ) (ve : v ≡ getD (held .roots .at) 0 0) (fe : foundOf f ≡ firstCall L (graphOf L s) v) where
+    module _ (z : Sized (held .roots)) (t : ℕ) (none-left : t ≤ 0) (q : Settled L s (held .top) t) (f : Find) (fe : foundOf f ≡ firstCall L (graphOf L s) (valueIn held)) where
       empty : m.settle (μ .nodes) (c .stack) ≡ []
       empty = settled t q ∙ ap (stackOf L s) (let u : t ≡ 0 = omega arith in u) ∙ stack-none L s
 
       finds : firstCall L (μ .nodes) (c .value) ≡ foundOf f
-      finds = ap (λ (g : Graph). firstCall L g (c .value)) (nodes-are L made s) ∙ ap (firstCall L (graphOf L s)) (value-is z ∙ sym ve) ∙ sym fe
+      finds = ap (λ (g : Graph). firstCall L g (c .value)) (nodes-are L made s) ∙ ap (firstCall L (graphOf L s)) (value-is z) ∙ sym fe
 
       told-by : toldBy S ≡ m.onFirst (λ (μ : Store). μ .nodes) take1 L (compile (S .book)) μ c (foundOf f)
       told-by = on-none L (compile (S .book)) μ c empty ∙ ap (m.onFirst (λ (μ : Store). μ .nodes) take1 L (compile (S .book)) μ c) finds
@@ -128,14 +132,18 @@ module _ (L made : ℕ) (held : Held) (s : List ℕ) where
         pub begins-inside : h .0 < L
         begins-inside = let i = stack₁ .holds .inQ (h .0) ours in let j = size in omega arith
 
-        module _ (s₁ s₂ : List ℕ) (W : Sought L s s₁) (d : Did L s₁ s₂ (setLink (h .0) 0)) (room : 16 * L ≤ length (words s)) where
+        module _ (s₁ s₂ : List ℕ) (K : Searched L made (valueIn held) s) (W : SoughtFrom L (valueIn held) s s₁) (d : Did L s₁ s₂ (setLink (h .0) 0)) (room : 16 * L ≤ length (words s)) where
+          X : Sought L made (S .stands .world .owned) (valueIn held) s s₁
+          unfolding standing-search
+          X = W (standing-search z K)
+
           same-graph : graphOf L s₂ ≡ graphOf L s
-          same-graph = ap (λ (x : Memory). x .graph) (d .is) ∙ W .still .graph
+          same-graph = ap (λ (x : Memory). x .graph) (d .is) ∙ X .leaves .graph
 
           pushed : stackOf L s₂ (suc (h .0)) ≡ h .0 ∷ []
           pushed =
               let e₀ : stackOf L s₁ 0 ≡ [] = stack-none L s₁ in
-              stack-push L s₁ s₂ (h .0) 0 (let l = W .still .long in omega arith) begins-inside d (λ w. List·Memᴰ·not-nil (subst (List·Memᴰ (h .0)) e₀ w)) (let l = ap length e₀ in omega arith)
+              stack-push L s₁ s₂ (h .0) 0 (let l = X .leaves .long in omega arith) begins-inside d (λ w. List·Memᴰ·not-nil (subst (List·Memᴰ (h .0)) e₀ w)) (let l = ap length e₀ in omega arith)
               ∙ ap (λ (r : List ℕ). h .0 ∷ r) e₀
 
           stored : storeOf L made s₂ ≡ μ
@@ -154,5 +162,49 @@ module _ (L made : ℕ) (held : Held) (s : List ℕ) where
           apart-from x lt o (inl u) r = o (subst (Ours (S .stands .world)) (sym r) u)
           apart-from x lt o (inr u) r = made-taken L made x s lt (h .0) u r
 
+          apart : (x : ℕ) → x < made → ¬ (Ours (S .stands .world) x) → x ≡ h .0 → ⊥
+          apart x i o = apart-from x i o (stack₁ .new (h .0) ours)
+
           pub begins-links : OwnLinks L made (S .stands .world) s s₂
-          begins-links x i o = ap (λ (y : Memory). getD (y .links) x 0) (d .is) ∙ getD-set-other (linksOf L s₁) (h .0) x 0 0 (λ u. apart-from x i o (stack₁ .new (h .0) ours) u) ∙ ap (λ (l : List ℕ). getD l x 0) (W .still .links)
+          begins-links x i o = ap (λ (y : Memory). getD (y .links) x 0) (d .is) ∙ getD-set-other (linksOf L s₁) (h .0) x 0 0 (apart x i o) ∙ X .leaves .links x o
+
+          pub begins-marks : OwnMarks L made (S .stands .world) s s₂
+          begins-marks x i o = ap (λ (y : Memory). getD (y .marks) x 0) (d .is) ∙ X .leaves .marks x o
+
+          pub begins-finished : (x : ℕ) → getD (marksOf L s) x 0 ≡ 2 → getD (marksOf L s₂) x 0 ≡ 2
+          begins-finished x q = ap (λ (y : Memory). getD (y .marks) x 0) (d .is) ∙ X .leaves .finished x q
+
+          -- the call's link is the stack's, and none of the search's
+          called : CallAt (graphOf L s) (h .0)
+          unfolding look foundOf
+          called =
+              let F = found-calls L (h .0) (record { own = S .stands .world .owned; roots = rootsOf c; part = ground z .part; handle = ground z .handle }) (sym fe ∙ ap foundOf e) in
+              (F .name, F .args, ap (node (graphOf L s)) (sym (F .ended)) ∙ F .call)
+
+          pub begins-searched : Searched L made (valueIn held) s₂
+          begins-searched =
+              let M : marksOf L s₂ ≡ marksOf L s₁ = ap (λ (y : Memory). y .marks) (d .is) in
+              searched-same L made (valueIn held) s s₂ same-graph (subst (Closed made (graphOf L s)) (sym M) (X .leaves .closed))
+              (resumes-later (X .leaves .closed) (later-same made (graphOf L s)) (ground z) (linksOf L s₁) (marksOf L s₂) (linksOf L s₂) (λ x q. ap (λ (l : List ℕ). getD l x 0) M ∙ q) (λ x w. ap (λ (l : List ℕ). getD l x 0) M)
+              (λ x w n. ap (λ (y : Memory). getD (y .links) x 0) (d .is) ∙ getD-set-other (linksOf L s₁) (h .0) x 0 0 (λ u. n (subst (CallAt (graphOf L s)) (sym u) called))) (X .resumes))
+
+      -- the search where there is no call
+      module _ (s₁ : List ℕ) (K : Searched L made (valueIn held) s) (W : SoughtFrom L (valueIn held) s s₁) where
+        Y : Sought L made (S .stands .world .owned) (valueIn held) s s₁
+        unfolding standing-search
+        Y = W (standing-search z K)
+
+        pub silent-graph : (graphOf L s₁ ≡ graphOf L s) × (placesOf L s₁ ≡ placesOf L s) × (restOf L s₁ ≡ restOf L s) × (length (words s₁) ≡ length (words s))
+        silent-graph = (Y .leaves .graph, Y .leaves .places, Y .leaves .rest, Y .leaves .long)
+
+        pub silent-links : OwnLinks L made (S .stands .world) s s₁
+        silent-links x i o = Y .leaves .links x o
+
+        pub silent-marks : OwnMarks L made (S .stands .world) s s₁
+        silent-marks x i o = Y .leaves .marks x o
+
+        pub silent-finished : (x : ℕ) → getD (marksOf L s) x 0 ≡ 2 → getD (marksOf L s₁) x 0 ≡ 2
+        silent-finished = Y .leaves .finished
+
+        pub silent-searched : Searched L made (valueIn held) s₁
+        silent-searched = searched-same L made (valueIn held) s s₁ (Y .leaves .graph) (Y .leaves .closed) (Y .resumes)

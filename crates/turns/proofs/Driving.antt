@@ -1,37 +1,36 @@
 -- The calls that are walked, one behind the other.
 -- Here, in order: how code ended; the model call by call; what stays; the loop's facts, before each call and at its end.
 -- Assumes nothing.
-use Prim.Native.Nat.{ℕ, zero, suc, _+_, _-_, _*_, _≤_, _<_}
+use Prim.Native.Nat.{ℕ, suc, _+_, _-_, _≤_, _<_}
 use native.Mathlib.Omega.{arith}
 use native.Mathlib.Numerals.{add-one}
 use mathlib.Core.Path.{_≡_, refl, sym, ap, _∙_, subst}
 use mathlib.Core.Logic.{_⊎_, inl, inr}
-use mathlib.Core.List.{List, [], _∷_, List·Memᴰ, List·Memᴰ·head, List·Memᴰ·tail}
+use mathlib.Core.List.{List, [], _∷_, List·Memᴰ, List·Memᴰ·head}
 use lib.ListN.{length, getD, take, drop}
-use lib.Seq.{getD-set-other, take-take}
-use Rattle.mem.specs.Words.{words}
+use lib.Seq.{getD-set-other, getD-take, take-take}
 use Rattle.heap.specs.Build.{upFrom}
-use Rattle.heap.specs.Place.{Distinct}
-use Rattle.heap.specs.Graph.{Graph, look}
-use Rattle.heap.specs.Store.{Store, take1}
+use Rattle.heap.specs.Graph.{Graph, var, node}
+use Rattle.heap.specs.Store.{Store}
 use Rattle.engine.specs.Compile.{Program, compile}
 use Rattle.engine.specs.Machine as m
-use Rattle.standing.specs.Stands.{World, Ours}
+use Rattle.standing.specs.Stands.{Ours}
 use Rattle.store.specs.Regions.{Memory, graphOf, linksOf, restOf, storeOf, Did, setLink}
 use Rattle.store.specs.declared.NodeNo.{NodeNo}
 use Rattle.store.proofs.Laws.{length-graph}
 use Rattle.alternatives.proofs.Steps.{made-taken, nodes-are}
-use Rattle.machine.specs.Tables.{Space, Has}
+use Rattle.machine.specs.Tables.{Space}
 use Rattle.machine.specs.View.{stackOf, stopOf, demandOf}
-use Rattle.machine.specs.Contract.{Kept, Fine}
+use Rattle.machine.specs.Contract.{Kept}
 use Rattle.machine.specs.Drive.{driveOn, topStop, Topped}
 use Rattle.machine.specs.declared.Regs.{Regs}
 use Rattle.machine.specs.declared.Ended.{Ended}
-use Rattle.machine.specs.declared.Cur.{Cur}
 use Rattle.machine.specs.declared.Cur.the-variants.{Empty, Holds}
 use Rattle.machine.specs.declared.Stop.{Stop}
 use Rattle.machine.specs.declared.Stop.the-variants.{Demand, Becomes, Parts, Fails, Misfits, Broken, Full}
-use Rattle.turns.specs.Calls.{Stacked, Calls, OwnLinks, Driven}
+use Rattle.turns.specs.Calls.{Stacked, Calls, CallLinks, HitCall}
+use Rattle.seek.specs.Path.{CallAt}
+use Rattle.turns.proofs.Stops.{demands-call, becomes-call}
 use Rattle.turns.proofs.Climbing.{stacked-demand, stacked-distinct, stacked-few, stacked-ours}
 use Rattle.turns.proofs.Rooms.{low-top}
 use Rattle.turns.proofs.Links.{stack-links, stack-push, has-kept}
@@ -115,6 +114,10 @@ kept-link {L} {base} {made} d = record {
   long = d .long;
 }
 
+-- a node that was made
+pub row-kept : (L base made : ℕ) (s s′ : List ℕ) → Kept L base made s s′ → (y : ℕ) → y < made → node (graphOf L s′) y ≡ node (graphOf L s) y
+row-kept L base made s s′ K y lt = sym (getD-take made (graphOf L s′) y var lt) ∙ ap (λ (g : Graph). node g y) (K .nodes) ∙ getD-take made (graphOf L s) y var lt
+
 -- the store by its graph
 pub store-graph : (L k : ℕ) (s s′ : List ℕ) → graphOf L s′ ≡ graphOf L s → storeOf L k s′ ≡ storeOf L k s
 unfolding storeOf
@@ -129,7 +132,7 @@ module _ (L base : ℕ) (code : List ℕ) (n top made : ℕ) (s₀ : List ℕ) w
     pub record Driving (s : List ℕ) (t k left : ℕ) : Type 0 where
       pub onward : driveOn n p (stackOf L s₀ top) (storeOf L made s₀) ≡ driveOn left p (stackOf L s t) (storeOf L k s)
       pub stack : Stacked (C .book) (C .graph) (C .value) (C .world) (storeOf L made s₀) (storeOf L k s) (stackOf L s t)
-      pub links : OwnLinks L made (C .world) s₀ s
+      pub links : CallLinks L made (C .world) s₀ s
 
     pub driving-start : Driving s₀ top made n
     driving-start = record { onward = refl; stack = C .stack; links = λ x h o. refl }
@@ -149,7 +152,21 @@ module _ (L base : ℕ) (code : List ℕ) (n top made : ℕ) (s₀ : List ℕ) w
           ∙ ap (λ (j : ℕ). driveOn j p (stackOf L s t) (storeOf L k s)) (sym q)
           ∙ sym (D .onward)
 
-      pub driving-links : OwnLinks L made (C .world) s₀ s₁
+      -- what is to become a forward is a call
+      pub driving-hit : HitCall L s₁ (a .stop)
+      unfolding stopOf
+      driving-hit = go (a .stop) stops
+        where
+          go : (x : Stop) → stopOf L base s₁ (a .regs) x ≡ topStop p (stackOf L s t) (storeOf L k s) → HitCall L s₁ x
+          go (Demand h) e = tt
+          go (Becomes h j) e = subst (λ (z : Graph). CallAt z (h .0)) (nodes-are L (a .regs .made) s₁) (becomes-call (C .book) (C .graph) (C .value) (stackOf L s t) (D .stack) (h .0) (j .0) (stackOf L s₁ (a .regs .top)) (storeOf L (a .regs .made) s₁) (sym e))
+          go (Parts h) e = tt
+          go Fails e = tt
+          go Misfits e = tt
+          go Broken e = tt
+          go Full e = tt
+
+      pub driving-links : CallLinks L made (C .world) s₀ s₁
       driving-links x h o = ap (λ (l : List ℕ). getD l x 0) (T .links) ∙ D .links x h o
 
       module _ (room : Space L base s₀) (h : NodeNo) (e : Holds h ≡ demandOf (a .stop)) where
@@ -191,8 +208,14 @@ module _ (L base : ℕ) (code : List ℕ) (n top made : ℕ) (s₀ : List ℕ) w
           stored : storeOf L (a .regs .made) s₂ ≡ storeOf L (a .regs .made) s₁
           stored = store-graph L (a .regs .made) s₁ s₂ (ap (λ (x : Memory). x .graph) (d .is))
 
-          apart-from : (x : ℕ) → x < made → ¬ (Ours (C .world) x) → Ours (C .world) (h .0) ⊎ List·Memᴰ (h .0) (storeOf L made s₀ .free) → x ≡ h .0 → ⊥
-          apart-from x lt o (inl u) q = o (subst (Ours (C .world)) (sym q) u)
+          -- the call that is walked instead was one before, if it was made
+          called : (x : ℕ) → x < made → x ≡ h .0 → CallAt (graphOf L s₀) x
+          called x lt q =
+              let y : CallAt (graphOf L s₁) x = subst (CallAt (graphOf L s₁)) (sym q) (subst (λ (z : Graph). CallAt z (h .0)) (nodes-are L (a .regs .made) s₁) (demands-call p N (storeOf L k s) (h .0) N (storeOf L (a .regs .made) s₁) top-is)) in
+              (y .0, y .1, sym (row-kept L base made s₀ s₁ (kept-then {k = k} more K (T .kept)) x lt) ∙ y .2)
+
+          apart-from : (x : ℕ) → x < made → ¬ (Ours (C .world) x × CallAt (graphOf L s₀) x) → Ours (C .world) (h .0) ⊎ List·Memᴰ (h .0) (storeOf L made s₀ .free) → x ≡ h .0 → ⊥
+          apart-from x lt o (inl u) q = o (subst (Ours (C .world)) (sym q) u, called x lt q)
           apart-from x lt o (inr u) q = made-taken L made x s₀ lt (h .0) u q
 
           pub driving-next : 0 < left → Driving s₂ (h .0 + 1) (a .regs .made) (left - 1)

@@ -1,3 +1,5 @@
+pub mod Stops
+pub mod Grounds
 pub mod Climbing
 pub mod Rooms
 pub mod Links

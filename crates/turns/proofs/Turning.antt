@@ -1,32 +1,30 @@
 -- One turn, put together.
 -- Here, in order: how the code ended and what the step relies on; what stays; the turn.
 -- Assumes nothing.
-use Prim.Native.Nat.{ℕ, zero, suc, _+_, _-_, _*_, _≤_, _<_}
+use Prim.Native.Nat.{ℕ, zero, suc, _+_, _-_, _≤_, _<_}
 use native.Mathlib.Omega.{arith}
 use mathlib.Core.Path.{_≡_, refl, sym, ap, _∙_, subst}
 use mathlib.Core.Logic.{_⊎_, inl, inr}
 use mathlib.Core.Bool.{true, false}
 use mathlib.Core.List.{List, [], _∷_, reverse, List·Memᴰ}
 use lib.ListN.{length, getD, take, drop, length-reverse}
-use lib.Seq.{getD-take}
 use Rattle.mem.specs.Words.{words}
 use Rattle.book.specs.Syntax.{Symbol}
 use Rattle.heap.specs.Alike.{Each}
-use Rattle.heap.specs.Graph.{Graph, node, var, writeEach}
+use Rattle.heap.specs.Graph.{Graph, node, writeEach}
 use Rattle.heap.specs.Store.{Store, take1}
 use Rattle.engine.specs.Compile.{Program, compile}
 use Rattle.engine.specs.Machine as m
 use Rattle.agreement.proofs.Fine.{Takes}
-use Rattle.standing.specs.Shared.{Took, wrote, finish, storeTurn}
+use Rattle.standing.specs.Shared.{wrote, finish, storeTurn}
 use Rattle.standing.specs.Stands.{Ours, Reps}
 use Rattle.standing.proofs.Grows.{Stops, stops-becomes}
 use Rattle.standing.proofs.Step.{Tolds, same-stop, turn-alike}
 use Rattle.standing.proofs.Alternatives.{Splits, splits-turn}
-use Rattle.store.specs.Regions.{graphOf, marksOf, linksOf, placesOf, restOf, storeOf}
-use Rattle.store.specs.declared.NodeNo.{NodeNo}
+use Rattle.store.specs.Regions.{graphOf, marksOf, linksOf, restOf, storeOf}
 use Rattle.store.proofs.Laws.{length-graph}
 use Rattle.alternatives.proofs.Steps.{made-taken, nodes-are}
-use Rattle.alternatives.specs.Copies.{Divides, termsIn}
+use Rattle.alternatives.specs.Copies.{termsIn}
 use Rattle.machine.specs.View.{stackOf, stopOf, termsOf, preTerms}
 use Rattle.machine.specs.Tables.{Has}
 use Rattle.machine.specs.declared.Regs.{Regs}
@@ -34,16 +32,20 @@ use Rattle.machine.specs.declared.Ended.{Ended}
 use Rattle.machine.specs.declared.Stop.{Stop}
 use Rattle.machine.specs.declared.Stop.the-variants.{Demand, Becomes, Parts, Fails, Misfits, Broken, Full}
 use Rattle.copier.specs.Listed.{Clean}
-use Rattle.seek.specs.Walkable.{Clear}
+use Rattle.seek.specs.Path.{Closed, Resumes, CallAt, Later}
+use Rattle.seek.proofs.Survives.{later-rows, later-same, closed-later, resumes-later}
 use Rattle.pool.specs.declared.Held.{Held}
-use Rattle.pool.specs.Ring.{heldBy, heldIn, rootsOf}
+use Rattle.pool.specs.Ring.{Sized, heldBy, heldIn, rootsOf}
 use Rattle.pool.specs.Ring as p
-use Rattle.turns.specs.Front.{Space, Standing, Front, toldBy, tookOf, Stays, TurnTaken}
-use Rattle.turns.specs.Calls.{Stacked, Calls, OwnLinks, Driven, Begun}
+use Rattle.turns.specs.Front.{Space, Standing, Front, toldBy, tookOf, valueIn, Searched, Stays}
+use Rattle.turns.specs.Calls.{Calls, HitCall, Driven, Begun}
 use Rattle.turns.specs.Ends.{Capped, regsWith, Stopped, Hit, Finished}
 use Rattle.turns.specs.declared.Turned.{Turned}
 use Rattle.turns.specs.declared.Began.{Began}
 use Rattle.turns.specs.declared.What.the-variants.{Wrote}
+use Rattle.turns.proofs.Grounds.{ours-made}
+use Rattle.turns.proofs.Driving.{row-kept}
+use Rattle.turns.proofs.Begins.{ground}
 use Rattle.turns.proofs.Few.{few-alternatives}
 use Rattle.turns.proofs.Finishing.{terms-are}
 
@@ -192,17 +194,52 @@ module _ (L base : ℕ) (code : List ℕ) (made : ℕ) (held : Held) (s : List �
       made-in : made ≤ k
       made-in = K .least made (D .more) low
 
-      node-kept : (y : ℕ) → y < made → node (graphOf L s₂) y ≡ node (graphOf L s₁) y
-      node-kept y lt = sym (getD-take made (graphOf L s₂) y var lt) ∙ ap (λ (g : Graph). node g y) (D .kept .nodes) ∙ getD-take made (graphOf L s₁) y var lt
+      same-marks : marksOf L s₃ ≡ marksOf L s₁
+      same-marks = Z .marks ∙ D .kept .marks
+
+      -- only calls have changed, of what was made
+      no-hit : (y : ℕ) → y < made → ¬ (CallAt (graphOf L s) y) → ¬ (Hit x y)
+      unfolding front-calls
+      no-hit y lt o = go x (D .hit (front-calls s₁ b B e))
+        where
+          go : (z : Stop) → HitCall L s₂ z → ¬ (Hit z y)
+          go (Demand h) q = λ w. w
+          go (Becomes h j) q = λ w. o (q .0, q .1, ap (λ (g : Graph). node g y) (sym (B .graph)) ∙ sym (row-kept L base made s₁ s₂ (D .kept) y lt) ∙ ap (node (graphOf L s₂)) w ∙ q .2)
+          go (Parts h) q = λ w. w
+          go Fails q = λ w. w
+          go Misfits q = λ w. w
+          go Broken q = λ w. w
+          go Full q = λ w. w
+
+      row-stays : (y : ℕ) → y < made → ¬ (CallAt (graphOf L s) y) → node (graphOf L s₃) y ≡ node (graphOf L s) y
+      row-stays y lt o = Z .nodes y (let i = made-in in omega arith) (no-hit y lt o) ∙ row-kept L base made s₁ s₂ (D .kept) y lt ∙ ap (λ (g : Graph). node g y) (B .graph)
+
+      pub turn-later : Later made (graphOf L s) made (graphOf L s₃)
+      turn-later = later-rows (graphOf L s) (graphOf L s₃) (omega arith) row-stays
+
+      pub turn-finished : (y : ℕ) → getD (marksOf L s) y 0 ≡ 2 → getD (marksOf L s₃) y 0 ≡ 2
+      turn-finished y q = ap (λ (l : List ℕ). getD l y 0) same-marks ∙ B .finished y q
+
+      closed₁ : Closed made (graphOf L s) (marksOf L s₁)
+      closed₁ = subst (λ (g : Graph). Closed made g (marksOf L s₁)) (B .graph) (B .searched .closed)
+
+      pub turn-searched : Sized (held .roots) → Searched L made (valueIn held) s₃
+      unfolding front-calls
+      turn-searched z = record {
+        closed = closed-later closed₁ turn-later (marksOf L s₃) (λ y. ap (λ (l : List ℕ). getD l y 0) same-marks);
+        resumes = resumes-later closed₁ turn-later (ground L made held s S z) (linksOf L s₁) (marksOf L s₃) (linksOf L s₃) (λ y q. ap (λ (l : List ℕ). getD l y 0) same-marks ∙ q) (λ y w. ap (λ (l : List ℕ). getD l y 0) same-marks)
+            (λ y w o. ap (λ (l : List ℕ). getD l y 0) (Z .links) ∙ D .links (front-calls s₁ b B e) y (ours-made L made s (S .stands) y w) (λ u. o (subst (λ (g : Graph). CallAt g y) (B .graph) (u .1))))
+            (subst (λ (g : Graph). Resumes made g (marksOf L s₁) (linksOf L s₁) (valueIn held)) (B .graph) (B .searched .resumes));
+      }
 
       pub turn-stays : Stays L base made (Ours (S .stands .world)) s s₃
       unfolding front-calls
       turn-stays = record {
-        nodes = λ y lt o. Z .nodes y (let i = made-in in omega arith) (turn-own y lt o) ∙ node-kept y lt ∙ ap (λ (g : Graph). node g y) (B .graph);
-        links = λ y lt o. ap (λ (l : List ℕ). getD l y 0) (Z .links) ∙ D .links (front-calls s₁ b B e) y lt o ∙ B .links S y lt o;
+        nodes = λ y lt o. Z .nodes y (let i = made-in in omega arith) (turn-own y lt o) ∙ row-kept L base made s₁ s₂ (D .kept) y lt ∙ ap (λ (g : Graph). node g y) (B .graph);
+        links = λ y lt o. ap (λ (l : List ℕ). getD l y 0) (Z .links) ∙ D .links (front-calls s₁ b B e) y lt (λ u. o (u .0)) ∙ B .links S y lt o;
         rest = Z .rest ∙ D .kept .before ∙ ap (take (base + 2440)) (B .rest);
         long = Z .long ∙ long;
-        clear = Z .marks ∙ D .kept .marks ∙ B .clear;
+        marks = λ y lt o. ap (λ (l : List ℕ). getD l y 0) same-marks ∙ B .marks S y lt o;
         clean = Z .clean;
       }
 
@@ -221,6 +258,9 @@ module _ (L base : ℕ) (code : List ℕ) (made : ℕ) (held : Held) (s : List �
       links = B .links S;
       rest = ap (take (base + 2440)) (B .rest);
       long = B .long;
-      clear = B .clear;
+      marks = B .marks S;
       clean = B .places ∙ clean;
     }
+
+    pub silent-later : Later made (graphOf L s) made (graphOf L s₁)
+    silent-later = subst (Later made (graphOf L s) made) (sym (B .graph)) (later-same made (graphOf L s))

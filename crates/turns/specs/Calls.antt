@@ -1,5 +1,5 @@
 -- The stack within a turn, and what is promised of the calls that are walked.
--- Here, in order: a stack that climbs; where a turn begins; the calls; what they come to.
+-- Here, in order: a stack that climbs; the calls; links and marks that stay; what becomes a forward; what the calls come to; where a turn begins.
 -- Not here: the turn (Front).
 -- Assumes nothing.
 use Prim.Native.Nat.{ℕ, _≤_, _<_}
@@ -22,16 +22,18 @@ use Rattle.agreement.proofs.Fine.{Takes}
 use Rattle.agreement.proofs.Calls.{FineBook}
 use Rattle.agreement.proofs.Chain.{Chain}
 use Rattle.standing.specs.Stands.{World, Ours, Reps, Holds}
-use Rattle.store.specs.Regions.{graphOf, linksOf, placesOf, restOf, storeOf}
+use Rattle.store.specs.Regions.{graphOf, marksOf, linksOf, placesOf, restOf, storeOf}
 use Rattle.machine.specs.Tables.{Has}
 use Rattle.machine.specs.View.{stackOf, stopOf}
 use Rattle.machine.specs.Contract.{Kept, Fine}
 use Rattle.machine.specs.Drive.{driveOn}
 use Rattle.machine.specs.declared.Ended.{Ended}
-use Rattle.seek.specs.Walkable.{Clear}
+use Rattle.machine.specs.declared.Stop.{Stop}
+use Rattle.machine.specs.declared.Stop.the-variants.{Demand, Becomes, Parts, Fails, Misfits, Broken, Full}
+use Rattle.seek.specs.Path.{CallAt}
 use Rattle.pool.specs.declared.Held.{Held}
 use Rattle.pool.specs.Ring.{heldIn}
-use Rattle.turns.specs.Front.{Standing, toldBy}
+use Rattle.turns.specs.Front.{Standing, toldBy, valueIn, Searched}
 use Rattle.turns.specs.declared.Began.{Began}
 
 -- the stack N, its top a call, stands for a chain in the computation's own graph; its numbers are those of the world w₀, or were free in μ₀
@@ -63,10 +65,29 @@ pub record Calls (L base : ℕ) (code : List ℕ) (top made : ℕ) (s : List ℕ
 abbrev pub OwnLinks : ℕ → ℕ → World → List ℕ → List ℕ → Type 0
 OwnLinks L made w s s′ = (x : ℕ) → x < made → ¬ (Ours w x) → getD (linksOf L s′) x 0 ≡ getD (linksOf L s) x 0
 
+-- and so do marks
+abbrev pub OwnMarks : ℕ → ℕ → World → List ℕ → List ℕ → Type 0
+OwnMarks L made w s s′ = (x : ℕ) → x < made → ¬ (Ours w x) → getD (marksOf L s′) x 0 ≡ getD (marksOf L s) x 0
+
+-- links differ only at the world's own calls
+abbrev pub CallLinks : ℕ → ℕ → World → List ℕ → List ℕ → Type 0
+CallLinks L made w s s′ = (x : ℕ) → x < made → ¬ (Ours w x × CallAt (graphOf L s) x) → getD (linksOf L s′) x 0 ≡ getD (linksOf L s) x 0
+
+-- what is to become a forward is a call
+abbrev pub HitCall : ℕ → List ℕ → Stop → Type 0
+HitCall L s (Demand k) = Unit {0}
+HitCall L s (Becomes h k) = CallAt (graphOf L s) (h .0)
+HitCall L s (Parts h) = Unit {0}
+HitCall L s Fails = Unit {0}
+HitCall L s Misfits = Unit {0}
+HitCall L s Broken = Unit {0}
+HitCall L s Full = Unit {0}
+
 -- the calls that were walked: how the code ended, after at most n of them
 pub record Driven (L base : ℕ) (code : List ℕ) (n top made : ℕ) (s s′ : List ℕ) (a : Ended) : Type 0 where
   pub is : (C : Calls L base code top made s) → stopOf L base s′ (a .regs) (a .stop) ≡ driveOn n (compile (C .book)) (stackOf L s top) (storeOf L made s)
-  pub links : (C : Calls L base code top made s) → OwnLinks L made (C .world) s s′
+  pub links : (C : Calls L base code top made s) → CallLinks L made (C .world) s s′
+  pub hit : (C : Calls L base code top made s) → HitCall L s′ (a .stop)
   pub kept : Kept L base made s s′
   pub more : made ≤ a .regs .made
   pub fine : Fine (a .regs)
@@ -80,5 +101,7 @@ pub record Begun (L made : ℕ) (held : Held) (s s′ : List ℕ) (r : Began) : 
   pub links : (S : Standing L made held s) → OwnLinks L made (S .stands .world) s s′
   pub places : placesOf L s′ ≡ placesOf L s
   pub rest : restOf L s′ ≡ restOf L s
-  pub clear : Clear L s′
+  pub marks : (S : Standing L made held s) → OwnMarks L made (S .stands .world) s s′
+  pub finished : (x : ℕ) → getD (marksOf L s) x 0 ≡ 2 → getD (marksOf L s′) x 0 ≡ 2
+  pub searched : Searched L made (valueIn held) s′
   pub long : length (words s′) ≡ length (words s)

@@ -1,15 +1,15 @@
 -- What a turn on the store is given, and what it gives.
--- Here, in order: room; a computation of the definition that stands in the store; the front of the pool; the answer as the model gives it; what stays; the turn.
+-- Here, in order: room; a computation of the definition that stands in the store; the front of the pool; what searches leave; the answer as the model gives it; what stays; the turn.
 -- Not here: the calls of a turn (Calls), the model (standing, Shared).
 -- Assumes nothing.
 use Prim.Native.Nat.{ℕ, _+_, _*_, _≤_, _<_}
 use mathlib.Core.Path.{_≡_}
-use mathlib.Core.List.{List, _∷_, List·Memᴰ}
+use mathlib.Core.List.{List, _∷_}
 use lib.ListN.{length, getD, take}
 use Rattle.mem.specs.Words.{words}
 use Rattle.book.specs.Syntax.{Book}
 use Rattle.book.specs.Accepted as A
-use Rattle.heap.specs.Graph.{Graph, node, writeEach}
+use Rattle.heap.specs.Graph.{node, writeEach}
 use Rattle.heap.specs.Store.{Store, take1}
 use Rattle.engine.specs.Turn.{failed, misfit}
 use Rattle.engine.specs.Compile.{compile}
@@ -21,7 +21,7 @@ use Rattle.standing.specs.Stands.{Stands, Ours}
 use Rattle.store.specs.Regions.{nodeBound, graphOf, marksOf, linksOf, restOf, storeOf}
 use Rattle.machine.specs.Tables.{Has}
 use Rattle.copier.specs.Listed.{Clean}
-use Rattle.seek.specs.Walkable.{Clear}
+use Rattle.seek.specs.Path.{ClosedIn, ResumesIn, Later}
 use Rattle.pool.specs.declared.Held.{Held}
 use Rattle.pool.specs.Ring.{heldIn}
 use Rattle.alternatives.specs.Copies.{altsIn}
@@ -53,6 +53,15 @@ pub record Front (L base : ℕ) (code : List ℕ) (made : ℕ) (held : Held) (s 
   pub tables : Has (compile (standing .book)) base (restOf L s)
   pub coded : compile (standing .book) .code ≡ code
 
+-- the value's handle
+abbrev pub valueIn : Held → ℕ
+valueIn held = getD (held .roots .at) 0 0
+
+-- what searches leave between turns: the marks of all nodes, and where the search from the value goes on
+pub record Searched (L made v : ℕ) (s : List ℕ) : Type 0 where
+  pub closed : ClosedIn L made s
+  pub resumes : ResumesIn L made s v
+
 -- the handles with a stack's top
 abbrev pub withTop : Held → ℕ → Held
 withTop h t = record { roots = h .roots; top = t }
@@ -67,18 +76,21 @@ tookOf L base held s s′ r Misfit = ended misfit
 tookOf L base held s s′ r NoneLeft = noneLeft
 tookOf L base held s s′ r Lost = lost
 
--- what is not the computation's stays: nodes that were made and links, but for its own numbers; the words of the pool and the tables
+-- what is not the computation's stays: nodes that were made, marks and links, but for its own numbers; the words of the pool and the tables
 pub record Stays (L base made : ℕ) (own : ℕ → Type 0) (s s′ : List ℕ) : Type 0 where
   pub nodes : (x : ℕ) → x < made → ¬ (own x) → node (graphOf L s′) x ≡ node (graphOf L s) x
   pub links : (x : ℕ) → x < made → ¬ (own x) → getD (linksOf L s′) x 0 ≡ getD (linksOf L s) x 0
   pub rest : take (base + 2440) (restOf L s′) ≡ take (base + 2440) (restOf L s)
   pub long : length (words s′) ≡ length (words s)
-  pub clear : Clear L s′
+  pub marks : (x : ℕ) → x < made → ¬ (own x) → getD (marksOf L s′) x 0 ≡ getD (marksOf L s) x 0
   pub clean : Clean L s′
 
--- the turn that was taken
+-- the turn that was taken; only calls of what was made are changed, and finished nodes stay finished
 pub record TurnTaken (L base : ℕ) (code : List ℕ) (made : ℕ) (held : Held) (s s′ : List ℕ) (r : Turned) : Type 0 where
   pub is : (F : Front L base code made held s) → tookOf L base held s s′ r (r .what) ≡ storeTurn L (compile (F .standing .book)) (storeOf L made s) (heldIn L s held)
   pub stays : (F : Front L base code made held s) → Stays L base made (Ours (F .standing .stands .world)) s s′
   pub more : (made ≤ r .made) × (r .made ≤ L)
   pub still : r .what ≡ Wrote → graphOf L s′ ≡ graphOf L s
+  pub later : Later made (graphOf L s) made (graphOf L s′)
+  pub finished : (x : ℕ) → getD (marksOf L s) x 0 ≡ 2 → getD (marksOf L s′) x 0 ≡ 2
+  pub searched : Searched L made (valueIn held) s′

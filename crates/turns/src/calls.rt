@@ -13,9 +13,8 @@ ghost use lib.ListN.{length};
 ghost use Rattle.store.specs.Regions.{Room};
 ghost use Rattle.machine.specs.Tables.{Space, codeBound};
 ghost use Rattle.machine.specs.View.{demandOf};
-ghost use Rattle.seek.specs.Walkable.{Clear};
 ghost use Rattle.pool.specs.Ring.{Sized};
-ghost use Rattle.turns.specs.Front.{Standing};
+ghost use Rattle.turns.specs.Front.{Standing, valueIn, Searched};
 ghost use Rattle.turns.specs.Calls.{Calls, Driven, Begun};
 
 // Where a turn begins: the settled stack's top, or the value's first call where the stack is empty.
@@ -23,7 +22,7 @@ pub fn begin(s: &mut [u8], limit: usize, made: usize, held: Held) -> Began
     requires { ⌜ Room limit (now s) ⌝ }
     requires { ⌜ Standing limit made held (now s) ⌝ }
     requires { ⌜ Sized (held .roots) ⌝ }
-    requires { ⌜ Clear limit (now s) ⌝ }
+    requires { ⌜ Searched limit made (valueIn held) (now s) ⌝ }
     ensures { λ r. ⌜ Begun limit made held (now (s .entry)) (now (s .exit)) r ⌝ }
 {
     let top = machine::calls::settle(s, limit, held.top);

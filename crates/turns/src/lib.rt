@@ -10,9 +10,8 @@ ghost use Prim.Native.Nat.{ℕ, _+_, _*_, _<_, _≤_};
 ghost use lib.ListN.{length};
 ghost use Rattle.machine.specs.Tables.{codeBound};
 ghost use Rattle.copier.specs.Listed.{Clean};
-ghost use Rattle.seek.specs.Walkable.{Clear};
 ghost use Rattle.pool.specs.Ring.{Sized};
-ghost use Rattle.turns.specs.Front.{Space, Front, TurnTaken};
+ghost use Rattle.turns.specs.Front.{Space, Front, valueIn, Searched, TurnTaken};
 
 // What comes of a turn: the computation goes on; has so many alternatives, in the scratch rows; its result is to be written; it
 // failed; it was a misfit; no node was left; the definition's own bound ran out, which never comes.
@@ -52,7 +51,7 @@ pub fn take_turn(
     requires { ⌜ (length (now code) ≤ codeBound) × (made ≤ limit) ⌝ }
     requires { ⌜ Sized (held .roots) ⌝ }
     requires { ⌜ Front limit base (now code) made held (now s) ⌝ }
-    requires { ⌜ Clear limit (now s) × Clean limit (now s) ⌝ }
+    requires { ⌜ Searched limit made (valueIn held) (now s) × Clean limit (now s) ⌝ }
     ensures { λ r. ⌜ TurnTaken limit base (now (code .entry)) made held (now (s .entry)) (now (s .exit)) r ⌝ }
 {
     let b = calls::begin(s, limit, made, held);
