@@ -2,7 +2,7 @@
 -- Here, in order: a question; a book; the machine's run; the contract.
 -- Assumes nothing.
 use Prim.Native.Nat.{ℕ, _≤_, _<_}
-use mathlib.Core.Path.{_≡_, refl, ap, sym, _∙_, subst}
+use mathlib.Core.Path.{_≡_, refl, ap, sym, _∙_, subst⁻¹}
 use mathlib.Core.Logic.{_⊎_, inl, inr}
 use mathlib.Core.Bool.{Bool, true, false, _&&_}
 use mathlib.Core.List.{List, [], _++_, append-nil, map}
@@ -22,10 +22,14 @@ use Rattle.book.specs.Steps.{step}
 use Rattle.book.proofs.Fronts.{step-got, step-fault, after-got, after-fault}
 use Rattle.engine.specs.Compile.{compile}
 use Rattle.engine.specs.Run as e
+use Rattle.run.specs.declared.Limits.{Limits}
+use Rattle.run.specs.declared.Answer.{Answer}
+use Rattle.run.specs.declared.Outcome.{Outcome}
+use Rattle.run.specs.Given.{answerIs, countsIs, toldBy, answerOf, countsOf, Refusal, Gives, Ran}
 use Rattle.cases.specs.declared.Passed.{Passed}
 use Rattle.cases.specs.declared.Passed.the-variants.{Whole, Begun, Lost}
 use Rattle.cases.specs.Parts.{passed, start, found}
-use Rattle.cases.specs.Whole.{AtEnd, BookKept, QuestionKept, Kept, first, settled, settledIn}
+use Rattle.cases.specs.Whole.{AtEnd, BookKept, QuestionKept, Kept, first, settled, settledIn, CaseRan}
 use Rattle.cases.proofs.Passes.{parts, pass-lost, first-pass}
 use Rattle.cases.proofs.Long.{right-front, last-front}
 
@@ -164,3 +168,56 @@ module _ (l : e.Limits) (m : e.Lent) (go : Book → Right → e.Outcome) where
 pub machine-settled : (l : e.Limits) (m : e.Lent) (b more q rest : List ℕ) (p : Passed) → Kept b more q rest p → e.machine l m (b ++ more) (q ++ rest) ≡ settledIn (found p) (e.machine l m b q)
 unfolding e.machine
 machine-settled l m b more q rest p K = checked-settled l m _ b more q rest p K
+
+-- a refusal that is settled was one
+refusal-settled : (s : Step) (a : e.Answer) → Refusal (settled s a) → Refusal a
+unfolding settled first
+refusal-settled s e.emptied x = x
+refusal-settled s e.spent x = x
+refusal-settled s e.noNodes x = x
+refusal-settled s e.noPlaces x = x
+refusal-settled s e.noRoom x = x
+refusal-settled s e.badLimits x = tt
+refusal-settled s (e.badBook w p) x = tt
+refusal-settled s (e.badQuestion w p) x = tt
+refusal-settled s e.longCode x = tt
+refusal-settled s e.never x = x
+
+-- an outcome with another answer
+abbrev answered : Answer → Outcome → Outcome
+answered a o = record {
+  answer = a;
+  turns = o .turns;
+  nodes = o .nodes;
+  begun = o .begun;
+  split = o .split;
+  values = o .values;
+  failed = o .failed;
+  misfits = o .misfits;
+  written = o .written;
+}
+
+gives-settled : (s : Step) (o : e.Outcome) (r : Outcome) (a : Answer) {work work′ code code′ results results′ : List ℕ} → answerIs a ≡ settled s (answerIs (r .answer))
+    → Gives o r work work′ code code′ results results′ → Gives (settledIn s o) (answered a r) work work′ code code′ results results′
+unfolding settledIn answerOf countsOf countsIs toldBy e.tells e.resultsOf e.codeOf e.resultsAfter e.codeAfter
+gives-settled s (e.outcome x k out code) r a h G =
+    let z : answerIs a ≡ settled s x = h ∙ ap (settled s) (G .answered) in
+    record {
+      answered = z;
+      counted = G .counted;
+      told = rw (z, G .counted);
+      written = G .written;
+      resultsHold = G .resultsHold;
+      codeHolds = G .codeHolds;
+      workStays = λ y. G .workStays (refusal-settled s x y);
+    }
+
+-- the contract of a case's run
+pub case-ran : (l : Limits) (b q : List ℕ) (p : Passed) (r : Outcome) (a : Answer) {work work′ code code′ results results′ : List ℕ} → answerIs a ≡ settled (found p) (answerIs (r .answer))
+    → Ran l b q r work work′ code code′ results results′ → CaseRan l b q p (answered a r) work work′ code code′ results results′
+case-ran l b q p r a {work} {work′} {code} {code′} {results} {results′} h R =
+    record {
+      ran = λ more rest K. record {
+        is = subst⁻¹ (λ (o : e.Outcome). Gives o (answered a r) work work′ code code′ results results′) (machine-settled _ _ b more q rest p K) (gives-settled (found p) _ r a h (R .is));
+      };
+    }

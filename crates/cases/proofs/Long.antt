@@ -46,7 +46,7 @@ few-at (none ∷ l) h (suc k) q = few-at l h k q
 few-at (some x ∷ l) h zero {m} q = let z : x ≡ m = cc in let g = leb-true x 2 (both-hold (leb x 2) (fewAll l) h .0) in omega arith
 few-at (some x ∷ l) h (suc k) q = few-at l (both-hold (leb x 2) (fewAll l) h .1) k q
 
-body-few : (x : ℕ) {m : ℕ} → bodyOf x ≡ some m → m ≤ 2
+pub body-few : (x : ℕ) {m : ℕ} → bodyOf x ≡ some m → m ≤ 2
 unfolding bodyOf few fewAll
 body-few x q = few-at bodies refl x q
 

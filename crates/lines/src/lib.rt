@@ -4,7 +4,7 @@
 use run::Answer;
 use run::Outcome;
 ghost use mathlib.Core.Path.{_≡_};
-ghost use Prim.Native.Nat.{_≤_};
+ghost use Prim.Native.Nat.{_≤_, min};
 ghost use lib.ListN.{length};
 ghost use Rattle.engine.specs.Run.{numberOf, placeOf};
 ghost use Rattle.run.specs.Given.{answerIs};
@@ -65,8 +65,7 @@ pub fn print_told(o: Outcome) {
 
 // The smaller of two numbers.
 pub fn least(a: usize, b: usize) -> usize
-    ensures { λ r. ⌜ r ≤ a ⌝ }
-    ensures { λ r. ⌜ r ≤ b ⌝ }
+    ensures { λ r. ⌜ (r ≤ a) × (r ≤ b) × (r ≡ min a b) ⌝ }
 {
     if a < b { a } else { b }
 }
