@@ -3,4 +3,3 @@ pub mod Between
 pub mod Arms
 pub mod Questions
 pub mod Filled
-pub mod Stub

@@ -2,8 +2,6 @@
 // Here: what is lent and given. The modules, lowest first: bounds, steps, loops, asks, tables.
 // specs/Given has the contract.
 use book::Sort;
-ghost use Rattle.run.specs.Given.{Ran};
-ghost use Rattle.run.specs.Stub.{Pending};
 
 mod asks;
 mod bounds;
@@ -71,28 +69,4 @@ pub enum Stepped {
 pub struct Done {
     pub answer: Answer,
     pub state: State,
-}
-
-// STUB: the public run's types, refusing all.
-pub fn run(
-    book: &[u8],
-    question: &[u8],
-    l: Limits,
-    work: &mut [u8],
-    code: &mut [u8],
-    results: &mut [u8],
-) -> Outcome
-    ensures { λ r. ⌜ (Pending → Ran l (now (book .entry)) (now (question .entry)) r (now (work .entry)) (now (work .exit)) (now (code .entry)) (now (code .exit)) (now (results .entry)) (now (results .exit))) ⌝ }
-{
-    Outcome {
-        answer: Answer::BadLimits,
-        turns: 0,
-        nodes: 0,
-        begun: 0,
-        split: 0,
-        values: 0,
-        failed: 0,
-        misfits: 0,
-        written: 0,
-    }
 }
