@@ -29,15 +29,15 @@ use Rattle.writer.specs.Walk.{Reads}
 use Rattle.turns.specs.declared.What.the-variants.{Split, Wrote}
 use Rattle.turns.specs.declared.Turned as t
 use Rattle.turns.specs.Front.{Space, Front, TurnTaken, tookOf, withTop}
+use Rattle.turns.proofs.Few.{AtMost, machine-few}
 use Rattle.run.specs.declared.State.{State}
 use Rattle.run.specs.Between.{Bounded, Runs}
 use Rattle.run.specs.Arms.{afterTurn}
-use Rattle.run.proofs.Few.{FewIn, few-machine}
 use Rattle.run.proofs.Fronts.{front, H}
 use Rattle.run.proofs.Nexts.{Z, took, alts-length}
 use Rattle.run.proofs.Values.{value-reads}
 
-split-few : {w : World} {μ μ′ : Store} {cs : List m.Held} (x : Turned m.Kept) → After w μ x (split μ′ cs) → FewIn x → length cs ≤ 32
+split-few : {w : World} {μ μ′ : Store} {cs : List m.Held} (x : Turned m.Kept) → After w μ x (split μ′ cs) → AtMost x → length cs ≤ 32
 split-few x (after-splits I) f = let e = pool-length (I .pool) in omega arith
 
 module _ (l : e.Limits) (n : ℕ) (code : List ℕ) (st : State) (s results : List ℕ) (b : Bounded l n st s results) (some : 1 ≤ st .waiting) (held : Held) (G : RowGot (l .nodes) n (st .head) s held) (R : Runs l n code st s results) where
@@ -65,7 +65,7 @@ module _ (l : e.Limits) (n : ℕ) (code : List ℕ) (st : State) (s results : Li
           let p = took l n code st s results b some held G under s₁ r X R in
           let a = store-stands (R .book) (R .fine) (h .k) (h .sound) (storeOf (l .nodes) (st .made) s) (heldIn (l .nodes) s held) (h .stands) (l .nodes) (room-bound (h .room)) in
           let c = alts-length (l .nodes) (20 * l .pool) (held .roots .n) count s₁ in
-          let d = split-few (m.turn (compile (R .book)) (h .k)) (subst (After (h .stands .world) (storeOf (l .nodes) (st .made) s) (m.turn (compile (R .book)) (h .k))) (sym p ∙ ap (tookOf (l .nodes) (20 * l .pool) held s s₁ r) w) a) (few-machine (R .book) (R .accepted) (R .fine) (h .k) (h .sound)) in
+          let d = split-few (m.turn (compile (R .book)) (h .k)) (subst (After (h .stands .world) (storeOf (l .nodes) (st .made) s) (m.turn (compile (R .book)) (h .k))) (sym p ∙ ap (tookOf (l .nodes) (20 * l .pool) held s s₁ r) w) a) (machine-few (R .book) (R .accepted) (R .fine) (h .k) (h .sound)) in
           omega arith
 
       module _ (st₁ : State) (i : st₁ ≡ afterTurn (l .pool) st) where

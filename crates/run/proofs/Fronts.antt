@@ -38,7 +38,6 @@ use Rattle.pool.proofs.Rings.{place-inside, front-is, pool-kept}
 use Rattle.turns.specs.Front.{Front, Stays}
 use Rattle.run.specs.declared.State.{State}
 use Rattle.run.specs.Between.{countsIn, momentOf, Bounded, Runs}
-use Rattle.run.proofs.Few.{few-turn}
 
 -- a moment with the front c and the others cs, in the store μ
 pub record Here (book : Book) (B : FineBook book) (l : e.Limits) (x : e.Moment m.Kept) (μ : Store) (c : m.Held) (cs : List m.Held) (κ : Counts) (out : List ℕ) : Type 0 where
@@ -129,7 +128,6 @@ module _ (l : e.Limits) (n : ℕ) (code : List ℕ) (st : State) (s results : Li
       standing = record { book = R .book; accepted = R .accepted; fine = R .fine; kept = H .k; sound = H .sound; stands = H .stands; small = room-bound (H .room) };
       tables = R .tables;
       coded = R .coded;
-      few = few-turn (R .book) (R .accepted) (R .fine) (H .k) (H .sound) μ (heldIn L s held) (H .stands) L (room-bound (H .room));
     }
 
     -- after its turn

@@ -1,7 +1,6 @@
 pub mod Only
 pub mod Ranges
 pub mod Arming
-pub mod Few
 pub mod Fronts
 pub mod Tabled
 pub mod Nexts
@@ -10,7 +9,8 @@ pub mod Demands
 pub mod Stepping
 pub mod Looping
 pub mod Opening
-pub mod Counting
 pub mod Filling
 pub mod Slices
 pub mod Shown
+pub mod Prepared
+pub mod Outcomes

@@ -3,3 +3,5 @@ pub mod Between
 pub mod Arms
 pub mod Questions
 pub mod Filled
+pub mod Setting
+pub mod Passed

@@ -1,13 +1,17 @@
 // The run: a book, a question and limits, with three lent memories; the answer, the counts and the results.
-// Here: what is lent and given. The modules, lowest first: bounds, steps, loops, asks, tables.
+// Here: what is lent and given. The modules, lowest first: bounds, steps, loops, asks, tables, setup, whole.
 // specs/Given has the contract.
 use book::Sort;
 
 mod asks;
 mod bounds;
 mod loops;
+mod setup;
 mod steps;
 mod tables;
+mod whole;
+
+pub use whole::run;
 
 // The node limit, the pool limit, the budget, the results room and the code room.
 pub struct Limits {

@@ -1,5 +1,5 @@
 -- A node has at most 32 alternatives, in an accepted book.
--- Here, in order: where a walk ends; the terms that are built; the turn read plainly; the machine's turn on a computation's own graph; on the store; the front without its premise.
+-- Here, in order: where a walk ends; the terms that are built; the turn read plainly; the machine's turn on a computation's own graph; on the store.
 -- Assumes nothing.
 use Prim.Native.Nat.{ℕ, zero, suc, _≤_, _<_}
 use native.Mathlib.Omega.{arith}
@@ -24,11 +24,10 @@ use Rattle.agreement.proofs.Agree.{Sound, Pools, Same, same-goes, same-splits, 
 use Rattle.standing.specs.Stands.{Reps}
 use Rattle.standing.proofs.Grows.{Stops, stops-parts}
 use Rattle.standing.proofs.Step.{Tolds, same-stop, turn-alike}
-use Rattle.store.specs.Regions.{restOf, storeOf}
-use Rattle.machine.specs.Tables.{Has}
+use Rattle.store.specs.Regions.{storeOf}
 use Rattle.pool.specs.declared.Held.{Held}
 use Rattle.pool.specs.Ring.{heldIn}
-use Rattle.turns.specs.Front.{Standing, Front, toldBy}
+use Rattle.turns.specs.Front.{Standing, toldBy}
 
 -- a walk ends with at most 32 alternatives
 abbrev Within : List (List ℕ) → Reached → Type 0
@@ -159,6 +158,10 @@ same-few book B (splits cs n) (splits ks n′) (same-splits q) l = let e = pools
 same-few book B (value b) (value b′) same-value l = tt
 same-few book B (ended e) (ended e′) same-ended l = tt
 
+-- the machine's turn
+pub machine-few : (book : Book) → A.FineBook book → (B : FineBook book) (k : m.Kept) → Sound book B (k .comp) (k .stack) → AtMost (m.turn (compile book) k)
+machine-few book Q B k s = same-few book B (Plain.turn book (k .comp)) (m.turn (compile book) k) (turns book B (k .comp .graph) (k .comp .value) (k .comp .askers) (s .whole) (k .stack) (s .chain) .0) (turn-few book Q (k .comp))
+
 -- what the machine's alternatives say of the terms
 parts-few : (c : Comp) (h : ℕ) (ks : List ℕ) (g : Graph) → AtMost (m.finish c (m.parts h ks g)) → length ks ≤ 32
 unfolding m.finish m.parted
@@ -172,13 +175,10 @@ parts-few c h ks g l =
 pub own-few : (book : Book) → A.FineBook book → (B : FineBook book) (k : m.Kept) → Sound book B (k .comp) (k .stack) → (n : ℕ) → length (k .comp .graph) ≤ n
     → (h : ℕ) (ks : List ℕ) (g : Graph) → m.turnOn (λ x. x) m.own n (compile book) (k .comp .graph) (m.heldOf k) ≡ m.stopped (m.parts h ks g) → length ks ≤ 32
 unfolding m.turn m.turnWithin
-own-few book Q B k s n l h ks g e = parts-few (k .comp) h ks g (rw (told, m.turnWithin) at few)
+own-few book Q B k s n l h ks g e = parts-few (k .comp) h ks g (rw (told, m.turnWithin) at (machine-few book Q B k s))
   where
     told : m.turnOn (λ x. x) m.own (length (k .comp .graph)) (compile book) (k .comp .graph) (m.heldOf k) ≡ m.stopped (m.parts h ks g)
     told = sym (turnOn-bound book B (k .comp .graph) (k .comp .value) (k .comp .askers) (s .whole) n l (k .stack) (s .chain)) ∙ e
-
-    few : AtMost (m.turn (compile book) k)
-    few = same-few book B (Plain.turn book (k .comp)) (m.turn (compile book) k) (turns book B (k .comp .graph) (k .comp .value) (k .comp .askers) (s .whole) (k .stack) (s .chain) .0) (turn-few book Q (k .comp))
 
 -- A node has at most 32 alternatives.
 pub few-alternatives : {L made : ℕ} {held : Held} {s : List ℕ} (S : Standing L made held s) → (h : ℕ) (ks : List ℕ) (μ : Store) → toldBy S ≡ m.stopped (m.parts h ks μ) → length ks ≤ 32
@@ -200,7 +200,3 @@ few-alternatives {L} {made} {held} {s} S h ks μ e =
 
     go : (x : m.Told Graph) → m.turnOn (λ x. x) m.own L (compile (S .book)) g (m.heldOf (S .kept)) ≡ x → Tolds (S .stands .world) g μ₀ x (m.stopped (m.parts h ks μ)) → length ks ≤ 32
     go x q (same-stop {x = y} z) = at-stop y q z
-
--- the front of the pool, without its premise on alternatives
-pub front-of : {L base : ℕ} {code : List ℕ} {made : ℕ} {held : Held} {s : List ℕ} (S : Standing L made held s) → Has (compile (S .book)) base (restOf L s) → compile (S .book) .code ≡ code → Front L base code made held s
-front-of S tables coded = record { standing = S; tables = tables; coded = coded; few = few-alternatives S }

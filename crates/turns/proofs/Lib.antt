@@ -4,6 +4,6 @@ pub mod Links
 pub mod Driving
 pub mod Begins
 pub mod Finishing
+pub mod Few
 pub mod Turning
 pub mod Silent
-pub mod Few

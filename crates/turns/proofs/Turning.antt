@@ -44,6 +44,7 @@ use Rattle.turns.specs.Ends.{Capped, regsWith, Stopped, Hit, Finished}
 use Rattle.turns.specs.declared.Turned.{Turned}
 use Rattle.turns.specs.declared.Began.{Began}
 use Rattle.turns.specs.declared.What.the-variants.{Wrote}
+use Rattle.turns.proofs.Few.{few-alternatives}
 use Rattle.turns.proofs.Finishing.{terms-are}
 
 -- the registers that the end of the code speaks of
@@ -156,7 +157,7 @@ module _ (L base : ℕ) (code : List ℕ) (made : ℕ) (held : Held) (s : List �
         go (Parts h) q =
             let ks : List ℕ = reverse (preTerms L base s₂ (a .regs .terms)) in
             let n : length ks ≡ a .regs .terms = length-reverse (preTerms L base s₂ (a .regs .terms)) ∙ count-terms (a .regs .terms) (drop (base + 2696) (restOf L s₂)) in
-            let i = F .few (h .0) ks (storeOf L k s₂) q in
+            let i = few-alternatives S (h .0) ks (storeOf L k s₂) q in
             let Q = splits-turn (S .book) (S .fine) (S .kept) (S .sound) μ c (S .stands) L (S .small) (h .0) ks (storeOf L k s₂) q in
             let l = long in
             let te : ks ≡ termsIn L base s₂ (a .regs .terms) = terms-are L base s₂ (a .regs .terms) (omega arith) (omega arith) in

@@ -47,12 +47,11 @@ Space L base s = (L ≤ nodeBound) × (base ≤ 20480) × (16 * L + base + 4096 
 abbrev pub toldBy : {L made : ℕ} {held : Held} {s : List ℕ} → Standing L made held s → m.Told Store
 toldBy {L} {made} {held} {s} S = m.turnOn (λ (μ : Store). μ .nodes) take1 L (compile (S .book)) (storeOf L made s) (heldIn L s held)
 
--- the front of the pool: it stands; the book's tables and code are there; and a node has at most 32 alternatives
+-- the front of the pool: it stands, and the book's tables and code are there
 pub record Front (L base : ℕ) (code : List ℕ) (made : ℕ) (held : Held) (s : List ℕ) : Type 0 where
   pub standing : Standing L made held s
   pub tables : Has (compile (standing .book)) base (restOf L s)
   pub coded : compile (standing .book) .code ≡ code
-  pub few : (h : ℕ) (ks : List ℕ) (μ : Store) → toldBy standing ≡ m.stopped (m.parts h ks μ) → length ks ≤ 32
 
 -- the handles with a stack's top
 abbrev pub withTop : Held → ℕ → Held
