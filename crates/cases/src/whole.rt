@@ -8,7 +8,6 @@ use run::Limits;
 use run::Outcome;
 ghost use mathlib.Core.Path.{_≡_};
 ghost use Rattle.run.specs.Given.{answerIs};
-ghost use Rattle.run.specs.Stub.{Pending};
 ghost use Rattle.cases.specs.Parts.{found};
 ghost use Rattle.cases.specs.Whole.{first, settled, CaseRan};
 
@@ -50,7 +49,7 @@ pub fn run_case(
     code: &mut [u8],
     results: &mut [u8],
 ) -> Outcome
-    ensures { λ r. ⌜ (Pending → CaseRan l (now (book .entry)) (now (question .entry)) p r (now (work .entry)) (now (work .exit)) (now (code .entry)) (now (code .exit)) (now (results .entry)) (now (results .exit))) ⌝ }
+    ensures { λ r. ⌜ CaseRan l (now (book .entry)) (now (question .entry)) p r (now (work .entry)) (now (work .exit)) (now (code .entry)) (now (code .exit)) (now (results .entry)) (now (results .exit)) ⌝ }
 {
     let o = run::run(book, question, l, work, code, results);
     let a = o.answer;

@@ -29,7 +29,7 @@ same-length-3 c = search needs
 
 -- src/whole.rt:37:1
 returns : tie.Need-returns
-returns c = λ x. case-ran _ _ _ _ _ _ (c .settle .ensures) (c .before .before .before .before .before .before .before .run .ensures x)
+returns c = case-ran _ _ _ _ _ _ (c .settle .ensures) (c .before .before .before .before .before .before .before .run .ensures)
 
 pub run-case-spec : {M : Type 1} → statement M
 run-case-spec =
