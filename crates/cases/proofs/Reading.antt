@@ -1,21 +1,30 @@
--- Laws of reading a stream: how many bytes are read into a part of a slice; what is passed over; what is kept of a question.
+-- Laws of reading a stream: how many bytes are read into a part of a slice; what is passed over; what is kept of a question; a case.
 -- Assumes nothing.
 use Prim.Native.Nat.{ℕ, zero, suc, _+_, _-_, _≤_, _<_, min}
 use mathlib.Core.Logic.{inl, inr}
+use mathlib.Core.Bool.{Bool, true, false}
 use mathlib.Core.Path.{_≡_, refl, ap, sym, _∙_, subst, subst⁻¹}
 use mathlib.Core.List.{List, [], _∷_, _++_, append-nil, append-assoc}
 use mathlib.Core.Option.{Option, none, some}
-use lib.ListN.{length, take, drop, length-append, length-drop, take-append-drop}
+use lib.ListN.{length, take, drop, length-append, length-drop, take-append-drop, replicate, length-replicate}
 use lib.Seq.{length-take-le, length-front, take-length, take-at, take-append-le, take-take}
+use lib.Dec.{ltb}
 use native.Mathlib.Omega.{arith}
+use borrow.Author.Tests.{ltb-true, ltb-false}
+use Rattle.run.specs.declared.Limits.{Limits}
+use Rattle.run.specs.declared.Outcome.{Outcome}
 use Rattle.cases.specs.declared.Passed.{Passed}
 use Rattle.cases.specs.declared.Passed.the-variants.{Whole, Begun, Lost}
+use Rattle.cases.specs.declared.Head.{Head}
+use Rattle.cases.specs.declared.Head.the-variants as head
 use Rattle.cases.specs.declared.Rest.{Rest}
 use Rattle.cases.specs.declared.Rest.the-variants as rest
+use Rattle.cases.specs.declared.Taken.{Taken}
+use Rattle.cases.specs.declared.Taken.the-variants as taken
 use Rattle.cases.specs.Parts.{begun, due, byte, passed, start, reach}
 use Rattle.cases.specs.declared.Question.{Question}
 use Rattle.cases.specs.declared.Question.the-variants as question
-use Rattle.cases.specs.Whole.{AtEnd, QuestionKept, wholePart, Over, restIs, PartOf, Shown, questionIs}
+use Rattle.cases.specs.Whole.{AtEnd, BookKept, QuestionKept, wholePart, headIs, Over, restIs, PartOf, Shown, questionIs, CaseRan, takenIs}
 use Rattle.cases.proofs.Passes.{parts, pass-none, reach-part}
 use Rattle.cases.proofs.Long.{body-few}
 use Rattle.book.specs.Record.{bodyOf}
@@ -196,3 +205,41 @@ module _ (old part : List ℕ) (m : ℕ) (k : length part ≡ length (take m old
 
   pub part-shown : (x : Question) → questionIs (take m (part ++ drop m old)) q x → questionIs (part ++ drop m old) q x
   part-shown x s = let a = as-long in shown-in (part ++ drop m old) q m x (omega arith) s
+
+-- a case's numbers
+pub was-head : {x : Head} {l : Limits} {b q : ℕ} → headIs x → x ≡ head.Is l b q → (b < 4294967296) × (q < 4294967296)
+unfolding headIs
+was-head s e = subst headIs e s
+
+-- a question that was kept
+pub was-kept : (kept : List ℕ) (q : ℕ) {x : Question} {n : ℕ} {p : Passed} → questionIs kept q x → x ≡ question.Kept n p → Shown kept q n p
+unfolding questionIs
+was-kept kept q s e = subst (questionIs kept q) e s
+
+-- what is kept of a book of b bytes, and others for the rest
+book-rest : (kept : List ℕ) (b m : ℕ) → 32769 ≤ length kept → (m ≤ b) × (m ≤ length kept) × (m ≡ min b (length kept)) → BookKept (take m kept) (replicate (b - m) 0)
+book-rest kept b m h l = go (ltb m b) refl
+  where
+    go : (t : Bool) → ltb m b ≡ t → BookKept (take m kept) (replicate (b - m) 0)
+    go true t = (let g = ltb-true m b t in let y = length-take-le m kept (l .1) in inr (omega arith))
+    go false t = (let g = ltb-false m b t in let z : b - m ≡ 0 = omega arith in inl (rw z))
+
+-- a case that was read and run
+pub case-taken : (l : Limits) (b q : ℕ) (book asked : List ℕ) (m n : ℕ) (p : Passed) (r : Outcome) {work work′ code code′ results results′ : List ℕ} → 32769 ≤ length book
+    → (m ≤ b) × (m ≤ length book) × (m ≡ min b (length book)) → Shown asked q n p → CaseRan l (take m book) (take n asked) p r work work′ code code′ results results′
+    → takenIs l b q (taken.Gave r) work work′ code code′ results results′
+unfolding takenIs
+case-taken l b q book asked m n p r h f s C =
+    let x = length-append (take m book) (replicate (b - m) 0) in
+    let y = length-take-le m book (f .1) in
+    let z = length-replicate {A = ℕ} (b - m) 0 in
+    let u = length-append (take n asked) (s .rest) in
+    let v = length-take-le n asked (s .fits) in
+    let w = s .all in
+    record {
+      book = take m book ++ replicate (b - m) 0;
+      question = take n asked ++ s .rest;
+      bookLong = omega arith;
+      questionLong = omega arith;
+      ran = C .ran (replicate (b - m) 0) (s .rest) (record { book = book-rest book b m h f; question = s .enough; pass = s .pass });
+    }

@@ -1,5 +1,5 @@
 -- A case of which not all bytes are kept: what of it is shown to the engine, and what comes of it.
--- Here, in order: a part's end; what is kept of a book and of a question; what is read of a stream; an answer by the pass over all bytes; the contract of a case's run.
+-- Here, in order: a part's end; what is kept of a book and of a question; what is read of a stream; an answer by the pass over all bytes; the contract of a case's run; a case read and run.
 -- Not here: that this is what the engine gives for all the bytes (proofs, Cases).
 -- Assumes nothing.
 use Prim.Native.Nat.{ℕ, _+_, _≤_, _<_}
@@ -22,6 +22,8 @@ use Rattle.cases.specs.declared.Rest.{Rest}
 use Rattle.cases.specs.declared.Rest.the-variants as rest
 use Rattle.cases.specs.declared.Question.{Question}
 use Rattle.cases.specs.declared.Question.the-variants as question
+use Rattle.cases.specs.declared.Taken.{Taken}
+use Rattle.cases.specs.declared.Taken.the-variants as taken
 use Rattle.cases.specs.Parts.{passed, start, found}
 
 -- the pass stands at no record that is not whole yet
@@ -109,3 +111,15 @@ settledIn s (e.outcome a k results code) = e.outcome (settled s a) k results cod
 -- The contract of a case's run: of book b and question q, what is given is what the run gives for whatever they are kept of.
 pub record CaseRan (l : Limits) (b q : List ℕ) (p : Passed) (r : Outcome) (work work′ code code′ results results′ : List ℕ) : Type 0 where
   pub ran : (more rest : List ℕ) → Kept b more q rest p → Ran l (b ++ more) (q ++ rest) r work work′ code code′ results results′
+
+-- A case read and run: what is given is what the run gives for a book of b bytes and a question of q.
+pub record CaseTaken (l : Limits) (b q : ℕ) (r : Outcome) (work work′ code code′ results results′ : List ℕ) : Type 0 where
+  pub book : List ℕ
+  pub question : List ℕ
+  pub bookLong : length book ≡ b
+  pub questionLong : length question ≡ q
+  pub ran : Ran l book question r work work′ code code′ results results′
+
+unfoldable pub takenIs : Limits → ℕ → ℕ → Taken → (work work′ code code′ results results′ : List ℕ) → Type 0
+takenIs l b q (taken.Gave r) work work′ code code′ results results′ = CaseTaken l b q r work work′ code code′ results results′
+takenIs l b q taken.Cut work work′ code code′ results results′ = Unit {0}

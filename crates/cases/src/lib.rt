@@ -2,6 +2,7 @@
 // Here: the forms that the modules share. The modules, lowest first: passing, stream, whole.
 // Not here: the run (crate run), what is printed (crate lines).
 use run::Limits;
+use run::Outcome;
 
 mod passing;
 mod stream;
@@ -11,6 +12,7 @@ pub use stream::read_book;
 pub use stream::read_head;
 pub use stream::read_question;
 pub use whole::run_case;
+pub use whole::take_case;
 
 // What the first pass over a question has seen so far: whole records, and the place after them; or a record that is not whole yet, its place, how many bytes of its body are
 // due after the next, and the place after what was passed; or a record of an unknown kind, and its place.
@@ -36,5 +38,11 @@ pub enum Question {
 // The first pass over bytes that were passed over. Or the stream ends inside them.
 pub enum Rest {
     Are(Passed),
+    Cut,
+}
+
+// The outcome of a case. Or the stream ends inside it.
+pub enum Taken {
+    Gave(Outcome),
     Cut,
 }

@@ -1,17 +1,15 @@
 // A shelf of cases from standard input, a line for each: how a second interpreter is run against ours.
-// Here, in order: a case's line; its run; bytes that are passed over; its bytes; its numbers; all cases.
-// Not here: the run (crate run), how an outcome is printed (crate lines). No contract can say what is read or written.
+// Here, in order: a case's line; the memory lent; a case; all cases.
+// Not here: how a case is read and what of it the engine sees (crate cases), how an outcome is printed (crate lines). No contract can say what is read or written.
 //
 // A case: seven 4-byte little-endian numbers (nodes, pool, budget, results room, code room, book length, question length), the book, the question.
 // Its line: answer, place, the seven counts, then the results in lower-case hex or `-` if there are none. A stream cut inside a case ends with `14 0 0 0 0 0 0 0 0 -`.
-//
-// What the engine is not shown. Of a book over 32,768 bytes it sees 32,769: the answer depends only on the length being over 32,768 (11 at 32,768, once the limits pass).
-// Of a question all bytes count, since its first pass decides over all of them: one over 1,048,576 bytes is passed over and answered `14 0 0 0 0 0 0 0 0 -`, though the
-// engine would give 10, 11 or 12. What would lift it: a first pass that takes a question by parts.
+use cases::Head;
+use cases::Taken;
 use lines::least;
 use run::Limits;
 use run::Outcome;
-ghost use Prim.Native.Nat.{_≤_, _+_};
+ghost use Prim.Native.Nat.{_≤_, _<_};
 ghost use lib.ListN.{length};
 
 // The results in hex, or `-`.
@@ -32,87 +30,19 @@ fn print(o: Outcome, results: &[u8]) {
     io::write_all(1, b"\n");
 }
 
+// A stream that ends inside a case.
+fn cut() -> bool {
+    io::write_all(1, b"14 0 0 0 0 0 0 0 0 -\n");
+    false
+}
+
 // The work memory that limits ask; for limits out of range, which are refused whatever is lent, no more than the largest ask.
 fn work_size(nodes: usize, pool: usize) -> usize {
     40 * least(nodes, 16384) + 40 * least(pool, 1024) + 8192
 }
 
-// The run of a case, lent of each memory what its limits ask, or all there is.
-fn judge(
-    l: Limits,
-    book: &[u8],
-    question: &[u8],
-    work: &mut [u8],
-    code: &mut [u8],
-    results: &mut [u8],
-) {
-    let w = least(work_size(l.nodes, l.pool), work.len());
-    let c = least(l.code, code.len());
-    let r = least(l.results, results.len());
-    let o = run::run(
-        book,
-        question,
-        l,
-        &mut work[..w],
-        &mut code[..c],
-        &mut results[..r],
-    );
-    print(o, results);
-}
-
-// The line of what is no case.
-fn refuse() {
-    io::write_all(1, b"14 0 0 0 0 0 0 0 0 -\n");
-}
-
-// Reads at most n bytes of the input into a chunk, and answers how many: 0 where the input ends.
-fn pass(n: usize, chunk: &mut [u8]) -> usize {
-    let m = least(n, chunk.len());
-    io::read_full(0, &mut chunk[..m])
-}
-
-// Passes over n bytes of the input; whether there are as many.
-fn skip(n: usize) -> bool {
-    let mut space = io::buffer();
-    let chunk: &mut [u8] = &mut space;
-    let mut left = n;
-    while left > 0 {
-        let got = pass(left, chunk);
-        if got == 0 {
-            return false;
-        }
-        left = if got < left { left - got } else { 0 };
-    }
-    true
-}
-
-// Reads a book of b bytes, of which it keeps what there is room for; whether there are as many.
-fn read_book(b: usize, book: &mut [u8]) -> bool {
-    let m = least(b, book.len());
-    let got = io::read_full(0, &mut book[..m]);
-    if got < m {
-        return false;
-    }
-    skip(b - m)
-}
-
-// Reads a question of q bytes if there is room for it, or passes over it; whether there are as many.
-fn read_question(q: usize, question: &mut [u8]) -> bool {
-    if question.len() < q {
-        return skip(q);
-    }
-    let got = io::read_full(0, &mut question[..q]);
-    got == q
-}
-
-// A stream that ends inside a case.
-fn cut() -> bool {
-    refuse();
-    false
-}
-
-// One case of these limits and lengths; whether to go on.
-fn answer_one(
+// A case, lent of each memory what its limits ask, or all there is; whether to go on.
+fn answer(
     l: Limits,
     b: usize,
     q: usize,
@@ -121,49 +51,28 @@ fn answer_one(
     work: &mut [u8],
     code: &mut [u8],
     results: &mut [u8],
-) -> bool {
-    if !read_book(b, book) {
-        return cut();
-    }
-    if !read_question(q, question) {
-        return cut();
-    }
-    let m = least(b, book.len());
-    if q <= question.len() {
-        judge(l, &book[..m], &question[..q], work, code, results);
-    } else {
-        refuse();
-    }
-    true
-}
-
-// A byte as a number.
-fn wide(x: u8) -> usize
-    ensures { λ r. ⌜ r ≤ 255 ⌝ }
+) -> bool
+    requires { ⌜ (32769 ≤ length (now book)) × (771 ≤ length (now question)) × (q < 4294967296) ⌝ }
 {
-    x as usize
-}
-
-// Four bytes, from the k-th on, as a number.
-fn number(head: &[u8], k: usize) -> usize
-    requires { ⌜ k + 4 ≤ length (now head) ⌝ }
-    requires { ⌜ k ≤ 24 ⌝ }
-{
-    let low = wide(head[k]) + 256 * wide(head[k + 1]);
-    let high = wide(head[k + 2]) + 256 * wide(head[k + 3]);
-    low + 65536 * high
-}
-
-// The five limits of a case's first bytes.
-fn limits(head: &[u8]) -> Limits
-    requires { ⌜ 28 ≤ length (now head) ⌝ }
-{
-    Limits {
-        nodes: number(head, 0),
-        pool: number(head, 4),
-        budget: number(head, 8),
-        results: number(head, 12),
-        code: number(head, 16),
+    let w = least(work_size(l.nodes, l.pool), work.len());
+    let c = least(l.code, code.len());
+    let r = least(l.results, results.len());
+    let t = cases::take_case(
+        l,
+        b,
+        q,
+        book,
+        question,
+        &mut work[..w],
+        &mut code[..c],
+        &mut results[..r],
+    );
+    match t {
+        Taken::Gave(o) => {
+            print(o, results);
+            true
+        }
+        Taken::Cut => cut(),
     }
 }
 
@@ -174,22 +83,19 @@ fn next(
     work: &mut [u8],
     code: &mut [u8],
     results: &mut [u8],
-) -> bool {
-    let mut head = [0u8; 28];
-    let n = io::read_full(0, &mut head);
-    if n == 0 {
-        return false;
+) -> bool
+    requires { ⌜ (32769 ≤ length (now book)) × (771 ≤ length (now question)) ⌝ }
+{
+    let h = cases::read_head();
+    match h {
+        Head::Is(l, b, q) => answer(l, b, q, book, question, work, code, results),
+        Head::Ended => false,
+        Head::Cut => cut(),
     }
-    if n < 28 {
-        return cut();
-    }
-    let l = limits(&head);
-    let b = number(&head, 20);
-    let q = number(&head, 24);
-    answer_one(l, b, q, book, question, work, code, results)
 }
 
-// All cases: a number of turns that no run uses up, since nothing says that the input ends. The memories are the largest that limits in range ask.
+// All cases: a number of turns that no run uses up, since nothing says that the input ends. The memories are the largest that limits in range ask; of a book one byte more than
+// an accepted one has is kept, and of a question 1,048,576.
 fn main() {
     let mut book_space = [0u8; 32769];
     let mut question_space = [0u8; 1048576];
