@@ -1,0 +1,4 @@
+pub mod Passes
+pub mod Long
+pub mod Cases
+pub mod Reading
