@@ -1,4 +1,4 @@
-// Trees: reading a tree and reading its children call each other, the bytes left falling.
+// Trees: reading a tree and reading its children call each other, the bytes left falling. Children are read by a loop, so that the stack grows with a tree's depth alone.
 // Here, in order: the slots of a pattern; whether a slot can be split; a tree and its children.
 // Not here: the terms of a RULE (term), the functions (shelf).
 use crate::Rec;
@@ -144,24 +144,18 @@ pub fn read_trees(
     requires { ⌜ AllFit (now book) (slots .n) first n ⌝ }
     ensures { λ r. ⌜ TreesIs (now (s .entry)) (typesOf (now (book .entry))) (now (funcs .entry)) (live slots) slot (consFrom (now (book .entry)) first n) at r ⌝ }
 {
-    if n == 0 {
-        return Step::Next(at);
+    let mut k = at;
+    let mut con = first;
+    let mut left = n;
+    while 0 < left {
+        let a = wide(book[con + 1]);
+        let one = read_tree(s, book, types, cons, funcs, under(slots, slot, a), k);
+        let Step::Next(e) = one else {
+            return one;
+        };
+        k = e;
+        con += 2;
+        left -= 1;
     }
-    let a = wide(book[first + 1]);
-    let one = read_tree(s, book, types, cons, funcs, under(slots, slot, a), at);
-    let Step::Next(e) = one else {
-        return one;
-    };
-    read_trees(
-        s,
-        book,
-        types,
-        cons,
-        funcs,
-        slots,
-        slot,
-        first + 2,
-        n - 1,
-        e,
-    )
+    Step::Next(k)
 }

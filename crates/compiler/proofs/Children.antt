@@ -1,5 +1,5 @@
 -- The children of a SPLIT as they stand in the book, one after the other.
-use Prim.Native.Nat.{ℕ, zero, suc, _+_, _-_, _*_, _≤_, _<_}
+use Prim.Native.Nat.{ℕ, suc, _+_, _-_, _*_, _≤_, _<_}
 use native.Mathlib.Omega.{arith}
 use mathlib.Core.Path.{_≡_, refl, ap, sym, _∙_, subst}
 use mathlib.Core.Bool.{true}
@@ -48,7 +48,7 @@ module _ (types : List (List ℕ)) (t : Tree) (ts : Trees) (a : ℕ) (more : Lis
 
 module _ {s lore rows : List ℕ} {n i c m k g o : ℕ} {code : List ℕ} (x : TreesHere s lore rows n i c m k g o code) where
   -- none is left
-  pub trees-none : m ≡ 0 → (r : Ends) → r .at ≡ k → r .out ≡ o → TreesDone x code r
+  pub trees-none : m ≤ 0 → (r : Ends) → r .at ≡ k → r .out ≡ o → TreesDone x code r
   unfolding ofTrees flat offsets emit
   trees-none z r a b = at (x .trees) (x .arities) refl refl
     where
@@ -72,13 +72,6 @@ module _ {s lore rows : List ℕ} {n i c m k g o : ℕ} {code : List ℕ} (x : T
     pub on : (code₁ rows₁ code₂ : List ℕ) (q : ℕ) (e : Ends) (p₁ : Emits code code₁ g q (0x32 ∷ four o)) (p₂ : Grown rows rows₁ i n a) → TreeDone (tree code₁ rows₁ q p₁ p₂) code₂ e → k < e .at
     pub finish : (code₁ rows₁ code₂ rows₂ code₃ : List ℕ) (q : ℕ) (e r : Ends) (p₁ : Emits code code₁ g q (0x32 ∷ four o)) (p₂ : Grown rows rows₁ i n a) (p₃ : TreeDone (tree code₁ rows₁ q p₁ p₂) code₂ e) (p₄ : Keeps (n + a) rows₁ rows₂)
         → TreesDone (rest code₁ rows₁ code₂ rows₂ q e p₁ p₂ p₃ p₄) code₃ r → TreesDone x code₃ r
-
-  pub keeps-all : (a : ℕ) (rows₁ rows₂ rows₃ : List ℕ) → n + a ≤ 64 → Grown rows rows₁ i n a → Keeps (n + a) rows₁ rows₂ → Keeps n rows₂ rows₃ → Keeps n rows rows₃
-  keeps-all a rows₁ rows₂ rows₃ h p q r = record {
-    long = r .long ∙ q .long ∙ p .long;
-    same = λ j w. r .same j w ∙ q .same j (omega arith) ∙ p .same j (omega arith) (inl w);
-    empty = r .empty ∙ q .empty ∙ p .same 255 (omega arith) (inr (omega arith));
-  }
 
   module _ (a : ℕ) (t : Tree) (ts : Trees) (more : List ℕ) (p : x .trees ≡ child t ts) (q : x .arities ≡ a ∷ more) where
     fine : FineTrees (x .types) (x .funcs) (x .slots) i (child t ts) (a ∷ more)
@@ -227,11 +220,11 @@ module _ {s lore rows : List ℕ} {n i c m k g o : ℕ} {code : List ℕ} (x : T
             let w : getD rows (9 * i + 0) 0 < 8 = rw y slot-short in
             rw z at w
 
-  pub next-is : (a : ℕ) → a ≡ getD lore c 0 → (m ≡ 0 → ⊥) → NextIs a
+  pub next-is : (a : ℕ) → a ≡ getD lore c 0 → 0 < m → NextIs a
   next-is a same h = at (x .trees) (x .arities) refl refl
     where
       at : (ts : Trees) (l : List ℕ) → x .trees ≡ ts → x .arities ≡ l → NextIs a
-      at ts [] p q = absurd (h (sym (x .count) ∙ ap length q))
+      at ts [] p q = absurd (omega (arith, h, x .count, ap length q))
       at stop (b ∷ l) p q = absurd (subst (λ (l : List ℕ). FineTrees (x .types) (x .funcs) (x .slots) i stop l) q (subst (λ (t : Trees). FineTrees (x .types) (x .funcs) (x .slots) i t (x .arities)) p (x .fine)))
       at (child t ts) (b ∷ l) p q =
           let z : c + 0 ≡ c = omega arith in
@@ -241,12 +234,42 @@ module _ {s lore rows : List ℕ} {n i c m k g o : ℕ} {code : List ℕ} (x : T
 pub keeps-refl : (n : ℕ) (rows : List ℕ) → Keeps n rows rows
 keeps-refl n rows = record { long = refl; same = λ i h. refl; empty = refl }
 
-pub some-left : (m : ℕ) → (m ≡ 0 → ⊥) → 1 ≤ m
-some-left zero h = absurd (h refl)
-some-left (suc m) h = omega arith
-
 pub tree-kept : {s lore rows : List ℕ} {n k o : ℕ} {code : List ℕ} (x : TreeHere s lore rows n k o code) {code′ : List ℕ} {r : Ends} → TreeDone x code′ r → length code′ ≡ length code
 tree-kept x d = ap length (d .is) ∙ simp length-sets
 
-pub trees-kept : {s lore rows : List ℕ} {n i c m k g o : ℕ} {code : List ℕ} (x : TreesHere s lore rows n i c m k g o code) {code′ : List ℕ} {r : Ends} → TreesDone x code′ r → length code′ ≡ length code
-trees-kept x d = ap length (d .is) ∙ simp length-sets
+-- On the way over the children: the code keeps its length, the rows keep what they had, and what is done of those still due is done of all.
+pub record Onward (s lore rows₀ : List ℕ) (n i c₀ m₀ k₀ g₀ o₀ : ℕ) (code₀ rows : List ℕ) (c m k g o : ℕ) (code : List ℕ) : Type 0 where
+  pub past : k₀ ≤ k
+  pub long : length code ≡ length code₀
+  pub kept : Keeps n rows₀ rows
+  pub due : (x : TreesHere s lore rows₀ n i c₀ m₀ k₀ g₀ o₀ code₀) → (y : TreesHere s lore rows n i c m k g o code) × ((code′ : List ℕ) (r : Ends) → TreesDone y code′ r → TreesDone x code′ r)
+
+pub onward-start : (s lore rows : List ℕ) (n i c m k g o : ℕ) (code : List ℕ) → Onward s lore rows n i c m k g o code rows c m k g o code
+onward-start s lore rows n i c m k g o code = record { past = omega arith; long = refl; kept = keeps-refl n rows; due = λ x. (x, λ code′ r d. d) }
+
+module _ {s lore rows₀ : List ℕ} {n i c₀ m₀ k₀ g₀ o₀ : ℕ} {code₀ rows : List ℕ} {c m k g o : ℕ} {code : List ℕ} (w : Onward s lore rows₀ n i c₀ m₀ k₀ g₀ o₀ code₀ rows c m k g o code) (x : TreesHere s lore rows₀ n i c₀ m₀ k₀ g₀ o₀ code₀) where
+  -- the children still due
+  abbrev pub still : TreesHere s lore rows n i c m k g o code
+  still = w .due x .0
+
+  pub onward-end : m ≤ 0 → TreesDone x code (record { at = k; out = o })
+  onward-end h = w .due x .1 code _ (trees-none still h _ refl refl)
+
+  module _ {a : ℕ} (same : a ≡ getD lore c 0) (h : 0 < m) where
+    -- the first of them
+    pub child-is : NextIs still a
+    child-is = next-is still a same h
+
+    -- it is compiled
+    pub onward-more : {code₁ rows₁ code₂ rows₂ : List ℕ} {q : ℕ} {e : Ends} → Emits code code₁ g q (0x32 ∷ four o) → Grown rows rows₁ i n a → ((y : TreeHere s lore rows₁ (n + a) k o code₁) → TreeDone y code₂ e) → Keeps (n + a) rows₁ rows₂
+        → Onward s lore rows₀ n i c₀ m₀ k₀ g₀ o₀ code₀ rows₂ (c + 1) (m - 1) (e .at) (g + 5) (e .out) code₂
+    onward-more {code₁} {rows₁} {code₂} {rows₂} {q} {e} p₁ p₂ d p₄ = record {
+      past = omega (arith, w .past, child-is .on code₁ rows₁ code₂ q e p₁ p₂ (d _));
+      long = tree-kept (child-is .tree code₁ rows₁ q p₁ p₂) (d _) ∙ emits-long p₁ ∙ w .long;
+      kept = record {
+        long = p₄ .long ∙ p₂ .long ∙ w .kept .long;
+        same = λ j l. p₄ .same j (omega arith) ∙ p₂ .same j (omega (arith, child-is .grows .0 .2)) (inl l) ∙ w .kept .same j l;
+        empty = p₄ .empty ∙ p₂ .same 255 (omega arith) (inr (omega (arith, child-is .grows .0 .2))) ∙ w .kept .empty;
+      };
+      due = λ y. (let f = next-is (w .due y .0) a same h in (f .rest code₁ rows₁ code₂ rows₂ q e p₁ p₂ (d _) p₄, λ code′ r z. w .due y .1 code′ r (f .finish code₁ rows₁ code₂ rows₂ code′ q e r p₁ p₂ (d _) p₄ z)));
+    }

@@ -1,4 +1,4 @@
-// The code of a tree. A tree and its children call each other, the bytes left falling.
+// The code of a tree. A tree and its children call each other, the bytes left falling. Children are compiled by a loop, so that the stack grows with a tree's depth alone.
 // Here, in order: a tree; the children of a SPLIT, each laid down whole before the next.
 // Not here: a SPLIT's front (arm), a RULE (rule).
 use crate::Ends;
@@ -58,14 +58,21 @@ fn compile_trees(
     requires { ⌜ TreesHere (now s) (now lore) (now rows) n slot c m at g o (now code) ⌝ }
     ensures { λ r. ⌜ ((x : TreesHere (now (s .entry)) (now (lore .entry)) (now (rows .entry)) n slot c m at g o (now (code .entry))) → TreesDone x (now (code .exit)) r) × Keeps n (now (rows .entry)) (now (rows .exit)) ⌝ }
 {
-    if m == 0 {
-        return Ends { at, out: o };
+    let mut con = c;
+    let mut left = m;
+    let mut k = at;
+    let mut go = g;
+    let mut out = o;
+    while 0 < left {
+        let a = wide(lore[con]);
+        put_go(code, go, out);
+        grow(rows, slot, n, a);
+        let e = compile_tree(s, lore, rows, n + a, k, code, out);
+        k = e.at;
+        out = e.out;
+        con += 1;
+        go += 5;
+        left -= 1;
     }
-    let a = wide(lore[c]);
-    put_go(code, g, o);
-    grow(rows, slot, n, a);
-    let e = compile_tree(s, lore, rows, n + a, at, code, o);
-    let k = e.at;
-    let out = e.out;
-    compile_trees(s, lore, rows, n, slot, c + 1, m - 1, k, g + 5, code, out)
+    Ends { at: k, out }
 }

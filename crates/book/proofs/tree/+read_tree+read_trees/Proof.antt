@@ -1,12 +1,12 @@
-use Prim.Native.Nat.{_+_, _*_, _-_}
+use Prim.Native.Nat.{ℕ, _+_, _*_, _-_, _<_}
 use lib.ListN.{length}
-use mathlib.Core.Path.{_≡_, refl, sym, _∙_, ap}
+use mathlib.Core.Path.{refl}
 use native.Mathlib.Omega.{arith}
 use borrow.Author.Needs.{needs}
+use Rattle.book.specs.Steps.{typesOf, live}
 use Rattle.book.proofs.Records.{of-known}
 use Rattle.book.proofs.Places.{live-long, was-can, was-not}
-use Rattle.book.proofs.Woods.{tree-bad, tree-unsplit, tree-split', tree-none, tree-over, tree-rule, tree-nil, tree-odd, tree-next, trees-none, trees-fault, trees-more, fits-first}
-use Prim.Native.Nat.{ℕ, _<_}
+use Rattle.book.proofs.Woods.{tree-bad, tree-unsplit, tree-split', tree-none, tree-over, tree-rule, tree-nil, tree-odd, TreesAre, trees-start, trees-end, trees-fault, trees-more, fits-first}
 use borrow.Fn.Kinds.{In}
 use borrow.Fn.PlainCycle.{Measures, is, falls, and}
 use Rattle.book.proofs.tree.read_tree.Reads as read-tree
@@ -16,11 +16,11 @@ use Rattle.book.proofs.tree.read_trees.Reads as read-trees
 use Rattle.book.proofs.tree.read_trees.Kinds as read-trees-kinds
 use Rattle.book.proofs.tree.+read_tree+read_trees.Lts-read_trees as read-trees-lts
 use Rattle.book.proofs.record.bad.Reads as bad-reads
-use Rattle.book.proofs.term.read_rights.Reads as read-rights-reads
 use Rattle.book.proofs.record.rec_at.Reads as rec-at-reads
+use Rattle.book.proofs.record.wide.Reads as wide-reads
+use Rattle.book.proofs.term.read_rights.Reads as read-rights-reads
 use Rattle.book.proofs.tree.splits.Reads as splits-reads
 use Rattle.book.proofs.tree.under.Reads as under-reads
-use Rattle.book.proofs.record.wide.Reads as wide-reads
 use Rattle.book.proofs.tree.+read_tree+read_trees.{statement}
 use Rattle.book.proofs.tree.+read_tree+read_trees.Tie.{close}
 
@@ -45,7 +45,6 @@ abbrev read-trees-below : ℕ → In 4 read-trees-kinds.ps
 read-trees-below t =
     and 4 read-trees-kinds.ps (falls 4 read-trees-kinds.ps _<_ μ-read-trees t) read-trees.Pre
 
--- src/lib.rt:453:9
 read-tree-rec-at-requires : (t : ℕ) → read-tree-lts.Need-rec-at-requires (
   rec-at-reads.Asked,
   rec-at-reads.Learnt,
@@ -62,7 +61,6 @@ read-tree-rec-at-requires : (t : ℕ) → read-tree-lts.Need-rec-at-requires (
 ) (read-tree-at t) read-tree.Post
 read-tree-rec-at-requires t c κs = search needs
 
--- src/lib.rt:454:17
 read-tree-enum-known-r : (t : ℕ) → read-tree-lts.Need-enum-known-r (
   rec-at-reads.Asked,
   rec-at-reads.Learnt,
@@ -79,7 +77,6 @@ read-tree-enum-known-r : (t : ℕ) → read-tree-lts.Need-enum-known-r (
 ) (read-tree-at t) read-tree.Post
 read-tree-enum-known-r t c = search needs
 
--- src/lib.rt:455:9
 read-tree-enum-told : (t : ℕ) → read-tree-lts.Need-enum-told (
   rec-at-reads.Asked,
   rec-at-reads.Learnt,
@@ -96,7 +93,6 @@ read-tree-enum-told : (t : ℕ) → read-tree-lts.Need-enum-told (
 ) (read-tree-at t) read-tree.Post
 read-tree-enum-told t c = search needs
 
--- src/lib.rt:455:9
 read-tree-bad-requires : (t : ℕ) → read-tree-lts.Need-bad-requires (
   rec-at-reads.Asked,
   rec-at-reads.Learnt,
@@ -113,7 +109,6 @@ read-tree-bad-requires : (t : ℕ) → read-tree-lts.Need-bad-requires (
 ) (read-tree-at t) read-tree.Post
 read-tree-bad-requires t c κs = search needs
 
--- src/lib.rt:455:9
 read-tree-returns : (t : ℕ) → read-tree-lts.Need-returns (
   rec-at-reads.Asked,
   rec-at-reads.Learnt,
@@ -130,7 +125,6 @@ read-tree-returns : (t : ℕ) → read-tree-lts.Need-returns (
 ) (read-tree-at t) read-tree.Post
 read-tree-returns t c = tree-bad _ _ _ _ _ (c .before .before .before .rec-at .ensures) (c .before .enum-told .given .1) (c .bad .ensures)
 
--- src/lib.rt:459:17
 read-tree-wide-requires : (t : ℕ) → read-tree-lts.Need-wide-requires (
   rec-at-reads.Asked,
   rec-at-reads.Learnt,
@@ -147,7 +141,6 @@ read-tree-wide-requires : (t : ℕ) → read-tree-lts.Need-wide-requires (
 ) (read-tree-at t) read-tree.Post
 read-tree-wide-requires t c κs = search needs
 
--- src/lib.rt:460:17
 read-tree-splits-requires : (t : ℕ) → read-tree-lts.Need-splits-requires (
   rec-at-reads.Asked,
   rec-at-reads.Learnt,
@@ -164,7 +157,6 @@ read-tree-splits-requires : (t : ℕ) → read-tree-lts.Need-splits-requires (
 ) (read-tree-at t) read-tree.Post
 read-tree-splits-requires t c κs = ((c .before .before .before .before .before .before .before .before .before .before .pre) .1 .0 .front, (c .before .before .before .before .before .before .before .before .before .before .pre) .1 .1)
 
--- src/lib.rt:461:28
 read-tree-enum-known-can : (t : ℕ) → read-tree-lts.Need-enum-known-can (
   rec-at-reads.Asked,
   rec-at-reads.Learnt,
@@ -181,7 +173,6 @@ read-tree-enum-known-can : (t : ℕ) → read-tree-lts.Need-enum-known-can (
 ) (read-tree-at t) read-tree.Post
 read-tree-enum-known-can t c = search needs
 
--- src/lib.rt:462:36
 read-tree-enum-told-2 : (t : ℕ) → read-tree-lts.Need-enum-told-2 (
   rec-at-reads.Asked,
   rec-at-reads.Learnt,
@@ -198,7 +189,6 @@ read-tree-enum-told-2 : (t : ℕ) → read-tree-lts.Need-enum-told-2 (
 ) (read-tree-at t) read-tree.Post
 read-tree-enum-told-2 t c = search needs
 
--- src/lib.rt:462:17
 read-tree-returns-2 : (t : ℕ) → read-tree-lts.Need-returns-2 (
   rec-at-reads.Asked,
   rec-at-reads.Learnt,
@@ -215,7 +205,6 @@ read-tree-returns-2 : (t : ℕ) → read-tree-lts.Need-returns-2 (
 ) (read-tree-at t) read-tree.Post
 read-tree-returns-2 t c = tree-unsplit _ _ _ _ _ (c .before .before .before .before .before .before .before .before .rec-at .ensures) (c .before .before .before .before .before .before .r .given .1) (c .before .before .before .before .match2 .keys1) (c .before .before .before .wide .ensures) refl (was-not _ _ _ _ (c .before .before .splits .ensures) (c .enum-told2 .given .1))
 
--- src/lib.rt:464:13
 read-tree-read-trees-requires : (t : ℕ) → read-tree-lts.Need-read-trees-requires (
   rec-at-reads.Asked,
   rec-at-reads.Learnt,
@@ -232,7 +221,6 @@ read-tree-read-trees-requires : (t : ℕ) → read-tree-lts.Need-read-trees-requ
 ) (read-tree-at t) read-tree.Post
 read-tree-read-trees-requires t c κs = let h = was-can _ _ _ _ (c .before .before .before .splits .ensures) (c .before .can .given .1) in let g = of-known _ _ (c .before .before .before .before .before .before .before .before .before .rec-at .ensures) (c .before .before .before .before .before .before .before .r .given .1) in (omega (arith, (c .before .before .before .before .before .before .before .before .before .before .before .before .before .before .pre) .0, g .on, g .within), (((c .before .before .before .before .before .before .before .before .before .before .before .before .before .before .pre) .1 .0, h .can), h .fit))
 
--- src/lib.rt:468:17
 read-tree-returns-3 : (t : ℕ) → read-tree-lts.Need-returns-3 (
   rec-at-reads.Asked,
   rec-at-reads.Learnt,
@@ -249,7 +237,6 @@ read-tree-returns-3 : (t : ℕ) → read-tree-lts.Need-returns-3 (
 ) (read-tree-at t) read-tree.Post
 read-tree-returns-3 t c = tree-none _ _ _ _ _ (c .before .before .before .before .before .rec-at .ensures) (c .before .before .before .r .given .1) (c .before .match2 .keys2) (c .if1 .taken)
 
--- src/lib.rt:471:17
 read-tree-returns-4 : (t : ℕ) → read-tree-lts.Need-returns-4 (
   rec-at-reads.Asked,
   rec-at-reads.Learnt,
@@ -266,7 +253,6 @@ read-tree-returns-4 : (t : ℕ) → read-tree-lts.Need-returns-4 (
 ) (read-tree-at t) read-tree.Post
 read-tree-returns-4 t c = tree-over _ _ _ _ _ (c .before .before .before .before .before .before .rec-at .ensures) (c .before .before .before .before .r .given .1) (c .before .before .match2 .keys2) (c .before .if1 .left) (c .if2 .taken)
 
--- src/lib.rt:473:17
 read-tree-wide-requires-2 : (t : ℕ) → read-tree-lts.Need-wide-requires-2 (
   rec-at-reads.Asked,
   rec-at-reads.Learnt,
@@ -283,7 +269,6 @@ read-tree-wide-requires-2 : (t : ℕ) → read-tree-lts.Need-wide-requires-2 (
 ) (read-tree-at t) read-tree.Post
 read-tree-wide-requires-2 t c κs = search needs
 
--- src/lib.rt:474:13
 read-tree-read-rights-requires : (t : ℕ) → read-tree-lts.Need-read-rights-requires (
   rec-at-reads.Asked,
   rec-at-reads.Learnt,
@@ -300,7 +285,6 @@ read-tree-read-rights-requires : (t : ℕ) → read-tree-lts.Need-read-rights-re
 ) (read-tree-at t) read-tree.Post
 read-tree-read-rights-requires t c κs = search needs
 
--- src/lib.rt:441:1
 read-tree-returns-5 : (t : ℕ) → read-tree-lts.Need-returns-5 (
   rec-at-reads.Asked,
   rec-at-reads.Learnt,
@@ -317,7 +301,6 @@ read-tree-returns-5 : (t : ℕ) → read-tree-lts.Need-returns-5 (
 ) (read-tree-at t) read-tree.Post
 read-tree-returns-5 t c = let h = was-can _ _ _ _ (c .before .before .before .before .splits .ensures) (c .before .before .can .given .1) in tree-split' _ _ _ _ _ (c .before .before .before .before .before .before .before .before .before .before .rec-at .ensures) (c .before .before .before .before .before .before .before .before .r .given .1) (c .before .before .before .before .before .before .match2 .keys1) (c .before .before .before .before .before .wide .ensures) refl (h .test) (h .are) (c .read-trees .ensures)
 
--- src/lib.rt:441:1
 read-tree-returns-6 : (t : ℕ) → read-tree-lts.Need-returns-6 (
   rec-at-reads.Asked,
   rec-at-reads.Learnt,
@@ -334,7 +317,6 @@ read-tree-returns-6 : (t : ℕ) → read-tree-lts.Need-returns-6 (
 ) (read-tree-at t) read-tree.Post
 read-tree-returns-6 t c = tree-rule _ _ _ _ _ (c .before .before .before .before .before .before .before .before .rec-at .ensures) (c .before .before .before .before .before .before .r .given .1) (c .before .before .before .before .match2 .keys2) (c .before .before .before .if1 .left) (c .before .before .if2 .left) (c .before .wide2 .ensures) (live-long _ ((c .before .before .before .before .before .before .before .before .before .before .before .before .before .pre) .1 .1)) ((c .before .before .before .before .before .before .before .before .before .before .before .before .before .pre) .1 .0 .are) (c .read-rights .ensures)
 
--- src/lib.rt:441:1
 read-tree-returns-7 : (t : ℕ) → read-tree-lts.Need-returns-7 (
   rec-at-reads.Asked,
   rec-at-reads.Learnt,
@@ -351,7 +333,6 @@ read-tree-returns-7 : (t : ℕ) → read-tree-lts.Need-returns-7 (
 ) (read-tree-at t) read-tree.Post
 read-tree-returns-7 t c = tree-nil _ _ _ _ _ (c .before .before .before .before .rec-at .ensures) (c .before .before .r .given .1) (c .match2 .keys3)
 
--- src/lib.rt:441:1
 read-tree-returns-8 : (t : ℕ) → read-tree-lts.Need-returns-8 (
   rec-at-reads.Asked,
   rec-at-reads.Learnt,
@@ -368,20 +349,22 @@ read-tree-returns-8 : (t : ℕ) → read-tree-lts.Need-returns-8 (
 ) (read-tree-at t) read-tree.Post
 read-tree-returns-8 t c = tree-odd _ _ _ _ _ (c .before .before .before .before .rec-at .ensures) (c .before .before .r .given .1) (c .match2 .rest .0 .0 .1) (c .match2 .rest .0 .1) (c .match2 .rest .1)
 
--- src/lib.rt:499:9
-read-trees-returns : (t : ℕ) → read-trees-lts.Need-returns (
+abbrev read-trees-Inv-loop : read-trees-lts.InvT-loop
+read-trees-Inv-loop s book types cons funcs slots slot first n at k₀ con₀ left₀ k con left = TreesAre s book (typesOf book) funcs (live slots) slot (slots .n) first n at con left k
+
+abbrev read-trees-μ-loop : read-trees-lts.MeasureT-loop
+read-trees-μ-loop s book types cons funcs slots slot first n at k₀ con₀ left₀ k con left = left
+
+read-trees-loop-holds : (t : ℕ) → read-trees-lts.Need-loop-holds (
   wide-reads.Asked,
   wide-reads.Learnt,
   under-reads.Asked,
   under-reads.Learnt,
   read-tree-below t,
   read-tree.Post,
-  read-trees-below t,
-  read-trees.Post,
-) (read-trees-at t) read-trees.Post
-read-trees-returns t c = trees-none _ _ _ _ _ _ _ _ _ (c .if1 .taken)
+) (read-trees-at t) read-trees.Post read-trees-Inv-loop read-trees-μ-loop
+read-trees-loop-holds t c = trees-start _ _ _ _ _ _ _ _ _ _ (c .before .before .before .before .pre .1 .1)
 
--- src/lib.rt:501:23
 read-trees-add-wide : (t : ℕ) → read-trees-lts.Need-add-wide (
   wide-reads.Asked,
   wide-reads.Learnt,
@@ -389,12 +372,9 @@ read-trees-add-wide : (t : ℕ) → read-trees-lts.Need-add-wide (
   under-reads.Learnt,
   read-tree-below t,
   read-tree.Post,
-  read-trees-below t,
-  read-trees.Post,
-) (read-trees-at t) read-trees.Post
-read-trees-add-wide t c = let f = fits-first _ _ _ _ (c .if1 .left) ((c .before .before .before .before .before .pre) .1 .1) in omega (arith, f .0)
+) (read-trees-at t) read-trees.Post read-trees-Inv-loop read-trees-μ-loop
+read-trees-add-wide t c = omega (arith, fits-first _ _ _ _ (c .loop-test .taken) (c .before .loop .inv .fit) .0)
 
--- src/lib.rt:501:18
 read-trees-shared-slice-read-wide : (t : ℕ) → read-trees-lts.Need-shared-slice-read-wide (
   wide-reads.Asked,
   wide-reads.Learnt,
@@ -402,12 +382,9 @@ read-trees-shared-slice-read-wide : (t : ℕ) → read-trees-lts.Need-shared-sli
   under-reads.Learnt,
   read-tree-below t,
   read-tree.Post,
-  read-trees-below t,
-  read-trees.Post,
-) (read-trees-at t) read-trees.Post
-read-trees-shared-slice-read-wide t c = let f = fits-first _ _ _ _ (c .before .if1 .left) ((c .before .before .before .before .before .before .pre) .1 .1) in omega (arith, f .0)
+) (read-trees-at t) read-trees.Post read-trees-Inv-loop read-trees-μ-loop
+read-trees-shared-slice-read-wide t c = omega (arith, fits-first _ _ _ _ (c .before .loop-test .taken) (c .before .before .loop .inv .fit) .0)
 
--- src/lib.rt:501:9
 read-trees-wide-requires : (t : ℕ) → read-trees-lts.Need-wide-requires (
   wide-reads.Asked,
   wide-reads.Learnt,
@@ -415,12 +392,9 @@ read-trees-wide-requires : (t : ℕ) → read-trees-lts.Need-wide-requires (
   under-reads.Learnt,
   read-tree-below t,
   read-tree.Post,
-  read-trees-below t,
-  read-trees.Post,
-) (read-trees-at t) read-trees.Post
+) (read-trees-at t) read-trees.Post read-trees-Inv-loop read-trees-μ-loop
 read-trees-wide-requires t c κs = search needs
 
--- src/lib.rt:502:54
 read-trees-under-requires : (t : ℕ) → read-trees-lts.Need-under-requires (
   wide-reads.Asked,
   wide-reads.Learnt,
@@ -428,12 +402,9 @@ read-trees-under-requires : (t : ℕ) → read-trees-lts.Need-under-requires (
   under-reads.Learnt,
   read-tree-below t,
   read-tree.Post,
-  read-trees-below t,
-  read-trees.Post,
-) (read-trees-at t) read-trees.Post
-read-trees-under-requires t c κs = let f = fits-first _ _ _ _ (c .before .before .if1 .left) ((c .before .before .before .before .before .before .before .pre) .1 .1) in ((c .before .before .before .before .before .before .before .pre) .1 .0 .1, omega (arith, f .1, (c .wide .ensures)))
+) (read-trees-at t) read-trees.Post read-trees-Inv-loop read-trees-μ-loop
+read-trees-under-requires t c κs = (c .before .before .before .before .before .before .before .before .pre .1 .0 .1, omega (arith, fits-first _ _ _ _ (c .before .before .loop-test .taken) (c .before .before .before .loop .inv .fit) .1, c .wide .ensures))
 
--- src/lib.rt:502:9
 read-trees-read-tree-requires : (t : ℕ) → read-trees-lts.Need-read-tree-requires (
   wide-reads.Asked,
   wide-reads.Learnt,
@@ -441,12 +412,9 @@ read-trees-read-tree-requires : (t : ℕ) → read-trees-lts.Need-read-tree-requ
   under-reads.Learnt,
   read-tree-below t,
   read-tree.Post,
-  read-trees-below t,
-  read-trees.Post,
-) (read-trees-at t) read-trees.Post
-read-trees-read-tree-requires t c κs = (omega (arith, (c .before .before .before .before .before .before .before .before .pre) .0), ((c .before .before .before .before .before .before .before .before .pre) .1 .0 .0, (c .under .ensures .kept)))
+) (read-trees-at t) read-trees.Post read-trees-Inv-loop read-trees-μ-loop
+read-trees-read-tree-requires t c κs = (omega (arith, c .before .before .before .before .before .before .before .before .before .pre .0, c .before .before .before .before .loop .inv .past), (c .before .before .before .before .before .before .before .before .before .pre .1 .0 .0, c .under .ensures .kept))
 
--- src/lib.rt:503:20
 read-trees-enum-known-one : (t : ℕ) → read-trees-lts.Need-enum-known-one (
   wide-reads.Asked,
   wide-reads.Learnt,
@@ -454,12 +422,9 @@ read-trees-enum-known-one : (t : ℕ) → read-trees-lts.Need-enum-known-one (
   under-reads.Learnt,
   read-tree-below t,
   read-tree.Post,
-  read-trees-below t,
-  read-trees.Post,
-) (read-trees-at t) read-trees.Post
+) (read-trees-at t) read-trees.Post read-trees-Inv-loop read-trees-μ-loop
 read-trees-enum-known-one t c = search needs
 
--- src/lib.rt:504:9
 read-trees-enum-told : (t : ℕ) → read-trees-lts.Need-enum-told (
   wide-reads.Asked,
   wide-reads.Learnt,
@@ -467,12 +432,59 @@ read-trees-enum-told : (t : ℕ) → read-trees-lts.Need-enum-told (
   under-reads.Learnt,
   read-tree-below t,
   read-tree.Post,
-  read-trees-below t,
-  read-trees.Post,
-) (read-trees-at t) read-trees.Post
+) (read-trees-at t) read-trees.Post read-trees-Inv-loop read-trees-μ-loop
 read-trees-enum-told t c = search needs
 
--- src/lib.rt:504:9
+read-trees-returns : (t : ℕ) → read-trees-lts.Need-returns (
+  wide-reads.Asked,
+  wide-reads.Learnt,
+  under-reads.Asked,
+  under-reads.Learnt,
+  read-tree-below t,
+  read-tree.Post,
+) (read-trees-at t) read-trees.Post read-trees-Inv-loop read-trees-μ-loop
+read-trees-returns t c = trees-fault _ _ _ _ _ _ _ _ _ _ (c .before .before .before .before .before .before .before .loop .inv) (c .before .before .before .before .before .before .loop-test .taken) (c .before .before .before .before .wide .ensures) (c .before .before .before .under .ensures .is) (c .before .before .read-tree .ensures) (c .enum-told .given .1)
+
+read-trees-add-con : (t : ℕ) → read-trees-lts.Need-add-con (
+  wide-reads.Asked,
+  wide-reads.Learnt,
+  under-reads.Asked,
+  under-reads.Learnt,
+  read-tree-below t,
+  read-tree.Post,
+) (read-trees-at t) read-trees.Post read-trees-Inv-loop read-trees-μ-loop
+read-trees-add-con t c = omega (arith, fits-first _ _ _ _ (c .before .before .before .before .before .before .before .loop-test .taken) (c .before .before .before .before .before .before .before .before .loop .inv .fit) .0)
+
+read-trees-sub-left : (t : ℕ) → read-trees-lts.Need-sub-left (
+  wide-reads.Asked,
+  wide-reads.Learnt,
+  under-reads.Asked,
+  under-reads.Learnt,
+  read-tree-below t,
+  read-tree.Post,
+) (read-trees-at t) read-trees.Post read-trees-Inv-loop read-trees-μ-loop
+read-trees-sub-left t c = search needs
+
+read-trees-loop-less : (t : ℕ) → read-trees-lts.Need-loop-less (
+  wide-reads.Asked,
+  wide-reads.Learnt,
+  under-reads.Asked,
+  under-reads.Learnt,
+  read-tree-below t,
+  read-tree.Post,
+) (read-trees-at t) read-trees.Post read-trees-Inv-loop read-trees-μ-loop
+read-trees-loop-less t c = search needs
+
+read-trees-loop-again : (t : ℕ) → read-trees-lts.Need-loop-again (
+  wide-reads.Asked,
+  wide-reads.Learnt,
+  under-reads.Asked,
+  under-reads.Learnt,
+  read-tree-below t,
+  read-tree.Post,
+) (read-trees-at t) read-trees.Post read-trees-Inv-loop read-trees-μ-loop
+read-trees-loop-again t c = trees-more _ _ _ _ _ _ _ _ _ _ (c .before .before .before .before .before .before .before .before .loop .inv) (c .before .before .before .before .before .before .before .loop-test .taken) (c .before .before .before .before .before .wide .ensures) (c .before .before .before .before .under .ensures .is) (c .before .before .before .read-tree .ensures) (c .before .one .given .1)
+
 read-trees-returns-2 : (t : ℕ) → read-trees-lts.Need-returns-2 (
   wide-reads.Asked,
   wide-reads.Learnt,
@@ -480,62 +492,8 @@ read-trees-returns-2 : (t : ℕ) → read-trees-lts.Need-returns-2 (
   under-reads.Learnt,
   read-tree-below t,
   read-tree.Post,
-  read-trees-below t,
-  read-trees.Post,
-) (read-trees-at t) read-trees.Post
-read-trees-returns-2 t c = trees-fault _ _ _ _ _ _ _ _ _ (c .before .before .before .before .before .before .if1 .left) (c .before .before .before .before .wide .ensures) (c .before .before .before .under .ensures .is) (c .before .before .read-tree .ensures) (c .enum-told .given .1)
-
--- src/lib.rt:514:9
-read-trees-add-read-trees : (t : ℕ) → read-trees-lts.Need-add-read-trees (
-  wide-reads.Asked,
-  wide-reads.Learnt,
-  under-reads.Asked,
-  under-reads.Learnt,
-  read-tree-below t,
-  read-tree.Post,
-  read-trees-below t,
-  read-trees.Post,
-) (read-trees-at t) read-trees.Post
-read-trees-add-read-trees t c = let f = fits-first _ _ _ _ (c .before .before .before .before .before .before .before .if1 .left) ((c .before .before .before .before .before .before .before .before .before .before .before .before .pre) .1 .1) in omega (arith, f .0)
-
--- src/lib.rt:515:9
-read-trees-sub-read-trees : (t : ℕ) → read-trees-lts.Need-sub-read-trees (
-  wide-reads.Asked,
-  wide-reads.Learnt,
-  under-reads.Asked,
-  under-reads.Learnt,
-  read-tree-below t,
-  read-tree.Post,
-  read-trees-below t,
-  read-trees.Post,
-) (read-trees-at t) read-trees.Post
-read-trees-sub-read-trees t c = search needs
-
--- src/lib.rt:506:5
-read-trees-read-trees-requires : (t : ℕ) → read-trees-lts.Need-read-trees-requires (
-  wide-reads.Asked,
-  wide-reads.Learnt,
-  under-reads.Asked,
-  under-reads.Learnt,
-  read-tree-below t,
-  read-tree.Post,
-  read-trees-below t,
-  read-trees.Post,
-) (read-trees-at t) read-trees.Post
-read-trees-read-trees-requires t c κs = let f = fits-first _ _ _ _ (c .before .before .before .before .before .before .before .if1 .left) ((c .before .before .before .before .before .before .before .before .before .before .before .before .pre) .1 .1) in let b = tree-next _ _ _ _ _ (c .before .before .before .read-tree .ensures) (c .before .one .given .1) in (omega (arith, (c .before .before .before .before .before .before .before .before .before .before .before .before .pre) .0, b .0, b .1), ((c .before .before .before .before .before .before .before .before .before .before .before .before .pre) .1 .0, f .2))
-
--- src/lib.rt:482:1
-read-trees-returns-3 : (t : ℕ) → read-trees-lts.Need-returns-3 (
-  wide-reads.Asked,
-  wide-reads.Learnt,
-  under-reads.Asked,
-  under-reads.Learnt,
-  read-tree-below t,
-  read-tree.Post,
-  read-trees-below t,
-  read-trees.Post,
-) (read-trees-at t) read-trees.Post
-read-trees-returns-3 t c = trees-more _ _ _ _ _ _ _ _ _ (c .before .before .before .before .before .before .before .before .if1 .left) (c .before .before .before .before .before .before .wide .ensures) (c .before .before .before .before .before .under .ensures .is) (c .before .before .before .before .read-tree .ensures) (c .before .before .one .given .1) (c .read-trees .ensures)
+) (read-trees-at t) read-trees.Post read-trees-Inv-loop read-trees-μ-loop
+read-trees-returns-2 t c = trees-end _ _ _ _ _ _ _ _ _ _ (c .before .loop .inv) (c .loop-test .left)
 
 pub +read-tree+read-trees-spec : {M : Type 1} → statement M
 +read-tree+read-trees-spec = close μ-read-tree μ-read-trees (λ t. read-tree-lts.spec (
@@ -580,12 +538,12 @@ pub +read-tree+read-trees-spec : {M : Type 1} → statement M
       under-reads.Learnt,
       read-tree-below t,
       read-tree.Post,
-      read-trees-below t,
-      read-trees.Post,
     )
     (read-trees-at t)
     read-trees.Post
-    (read-trees-returns t)
+    read-trees-Inv-loop
+    read-trees-μ-loop
+    (read-trees-loop-holds t)
     (read-trees-add-wide t)
     (read-trees-shared-slice-read-wide t)
     (read-trees-wide-requires t)
@@ -593,8 +551,9 @@ pub +read-tree+read-trees-spec : {M : Type 1} → statement M
     (read-trees-read-tree-requires t)
     (read-trees-enum-known-one t)
     (read-trees-enum-told t)
+    (read-trees-returns t)
+    (read-trees-add-con t)
+    (read-trees-sub-left t)
+    (read-trees-loop-less t)
+    (read-trees-loop-again t)
     (read-trees-returns-2 t)
-    (read-trees-add-read-trees t)
-    (read-trees-sub-read-trees t)
-    (read-trees-read-trees-requires t)
-    (read-trees-returns-3 t)

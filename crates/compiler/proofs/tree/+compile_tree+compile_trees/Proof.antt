@@ -2,9 +2,9 @@ use borrow.Author.Needs.{needs}
 use native.Mathlib.Omega.{arith}
 use mathlib.Core.Path.{refl}
 use lib.ListN.{length}
-use Prim.Native.Nat.{ℕ, _<_, _+_, _*_, _-_}
+use Prim.Native.Nat.{ℕ, _+_, _*_, _-_, _<_}
 use Rattle.compiler.proofs.Splits.{tree-inside, none-is, first-is, split-is}
-use Rattle.compiler.proofs.Children.{trees-none, next-is, keeps-all, keeps-refl, some-left, tree-kept, trees-kept}
+use Rattle.compiler.proofs.Children.{keeps-refl, tree-kept, Onward, onward-start, onward-end, onward-more, still, child-is}
 use Rattle.compiler.proofs.Writing.{emits-long}
 use borrow.Fn.Kinds.{In}
 use borrow.Fn.PlainCycle.{Measures, is, falls, and}
@@ -14,12 +14,12 @@ use Rattle.compiler.proofs.tree.+compile_tree+compile_trees.Lts-compile
 use Rattle.compiler.proofs.tree.compile_trees.Reads as compile-trees
 use Rattle.compiler.proofs.tree.compile_trees.Kinds as compile-trees-kinds
 use Rattle.compiler.proofs.tree.+compile_tree+compile_trees.Lts-compile_trees as compile-trees-lts
-use Rattle.compiler.proofs.position.grow.Reads as grow-reads
-use Rattle.compiler.proofs.code.put1.Reads as put1-reads
 use Rattle.compiler.proofs.arm.put_front.Reads as put-front-reads
+use Rattle.compiler.proofs.code.put1.Reads as put1-reads
 use Rattle.compiler.proofs.code.put_go.Reads as put-go-reads
-use Rattle.compiler.proofs.rule.put_rule.Reads as put-rule-reads
 use Rattle.compiler.proofs.code.wide.Reads as wide-reads
+use Rattle.compiler.proofs.position.grow.Reads as grow-reads
+use Rattle.compiler.proofs.rule.put_rule.Reads as put-rule-reads
 use Rattle.compiler.proofs.tree.+compile_tree+compile_trees.{statement}
 use Rattle.compiler.proofs.tree.+compile_tree+compile_trees.Tie.{close}
 
@@ -445,7 +445,13 @@ compile-tree-returns-3 : (t : ℕ) → compile-tree-lts.Need-returns-3 (
 ) (compile-tree-at t) compile-tree.Post
 compile-tree-returns-3 t c = ((λ x. none-is x (c .before .before .before .before .before .if1 .left) (c .before .before .before .before .if2 .left) .finish _ _ refl (c .before .before .put1 .ensures)), keeps-refl _ _)
 
-compile-trees-returns : (t : ℕ) → compile-trees-lts.Need-returns (
+abbrev compile-trees-Inv-loop : compile-trees-lts.InvT-loop
+compile-trees-Inv-loop s lore rows₀ n slot c m at g code₀ o con₀ left₀ k₀ go₀ out₀ rows code con left k go out = Onward s lore rows₀ n slot c m at g o code₀ rows con left k go out code
+
+abbrev compile-trees-μ-loop : compile-trees-lts.MeasureT-loop
+compile-trees-μ-loop s lore rows₀ n slot c m at g code₀ o con₀ left₀ k₀ go₀ out₀ rows code con left k go out = left
+
+compile-trees-loop-holds : (t : ℕ) → compile-trees-lts.Need-loop-holds (
   wide-reads.Asked,
   wide-reads.Learnt,
   put-go-reads.Asked,
@@ -454,10 +460,8 @@ compile-trees-returns : (t : ℕ) → compile-trees-lts.Need-returns (
   grow-reads.Learnt,
   compile-tree-below t,
   compile-tree.Post,
-  compile-trees-below t,
-  compile-trees.Post,
-) (compile-trees-at t) compile-trees.Post
-compile-trees-returns t c = ((λ x. trees-none x (c .if1 .taken) _ refl refl), keeps-refl _ _)
+) (compile-trees-at t) compile-trees.Post compile-trees-Inv-loop compile-trees-μ-loop
+compile-trees-loop-holds t c = onward-start _ _ _ _ _ _ _ _ _ _ _
 
 compile-trees-shared-slice-read-wide : (t : ℕ) → compile-trees-lts.Need-shared-slice-read-wide (
   wide-reads.Asked,
@@ -468,10 +472,8 @@ compile-trees-shared-slice-read-wide : (t : ℕ) → compile-trees-lts.Need-shar
   grow-reads.Learnt,
   compile-tree-below t,
   compile-tree.Post,
-  compile-trees-below t,
-  compile-trees.Post,
-) (compile-trees-at t) compile-trees.Post
-compile-trees-shared-slice-read-wide t c = omega (arith, (c .before .before .before .before .before .before .pre .1) .cons, (c .before .before .before .before .before .before .pre .1) .told .long)
+) (compile-trees-at t) compile-trees.Post compile-trees-Inv-loop compile-trees-μ-loop
+compile-trees-shared-slice-read-wide t c = let h = still (c .before .before .loop .inv) (c .before .before .before .before .before .before .before .pre .1) in omega (arith, c .before .loop-test .taken, h .cons, h .told .long)
 
 compile-trees-wide-requires : (t : ℕ) → compile-trees-lts.Need-wide-requires (
   wide-reads.Asked,
@@ -482,9 +484,7 @@ compile-trees-wide-requires : (t : ℕ) → compile-trees-lts.Need-wide-requires
   grow-reads.Learnt,
   compile-tree-below t,
   compile-tree.Post,
-  compile-trees-below t,
-  compile-trees.Post,
-) (compile-trees-at t) compile-trees.Post
+) (compile-trees-at t) compile-trees.Post compile-trees-Inv-loop compile-trees-μ-loop
 compile-trees-wide-requires t c κs = search needs
 
 compile-trees-put-go-requires : (t : ℕ) → compile-trees-lts.Need-put-go-requires (
@@ -496,10 +496,8 @@ compile-trees-put-go-requires : (t : ℕ) → compile-trees-lts.Need-put-go-requ
   grow-reads.Learnt,
   compile-tree-below t,
   compile-tree.Post,
-  compile-trees-below t,
-  compile-trees.Post,
-) (compile-trees-at t) compile-trees.Post
-compile-trees-put-go-requires t c κs = (next-is (c .before .before .before .before .before .before .before .before .pre .1) (c .before .wide .result) (c .before .wide .ensures) (c .before .before .before .if1 .left)) .go-room
+) (compile-trees-at t) compile-trees.Post compile-trees-Inv-loop compile-trees-μ-loop
+compile-trees-put-go-requires t c κs = child-is (c .before .before .before .before .loop .inv) (c .before .before .before .before .before .before .before .before .before .pre .1) (c .before .wide .ensures) (c .before .before .before .loop-test .taken) .go-room
 
 compile-trees-grow-requires : (t : ℕ) → compile-trees-lts.Need-grow-requires (
   wide-reads.Asked,
@@ -510,10 +508,8 @@ compile-trees-grow-requires : (t : ℕ) → compile-trees-lts.Need-grow-requires
   grow-reads.Learnt,
   compile-tree-below t,
   compile-tree.Post,
-  compile-trees-below t,
-  compile-trees.Post,
-) (compile-trees-at t) compile-trees.Post
-compile-trees-grow-requires t c κs = (next-is (c .before .before .before .before .before .before .before .before .before .before .before .before .pre .1) (c .before .before .before .before .before .wide .result) (c .before .before .before .before .before .wide .ensures) (c .before .before .before .before .before .before .before .if1 .left)) .grows
+) (compile-trees-at t) compile-trees.Post compile-trees-Inv-loop compile-trees-μ-loop
+compile-trees-grow-requires t c κs = child-is (c .before .before .before .before .before .before .before .before .loop .inv) (c .before .before .before .before .before .before .before .before .before .before .before .before .before .pre .1) (c .before .before .before .before .before .wide .ensures) (c .before .before .before .before .before .before .before .loop-test .taken) .grows
 
 compile-trees-add-compile-tree : (t : ℕ) → compile-trees-lts.Need-add-compile-tree (
   wide-reads.Asked,
@@ -524,10 +520,8 @@ compile-trees-add-compile-tree : (t : ℕ) → compile-trees-lts.Need-add-compil
   grow-reads.Learnt,
   compile-tree-below t,
   compile-tree.Post,
-  compile-trees-below t,
-  compile-trees.Post,
-) (compile-trees-at t) compile-trees.Post
-compile-trees-add-compile-tree t c = omega (arith, (next-is (c .before .before .before .before .before .before .before .before .before .before .before .before .before .before .before .before .pre .1) (c .before .before .before .before .before .before .before .before .before .wide .result) (c .before .before .before .before .before .before .before .before .before .wide .ensures) (c .before .before .before .before .before .before .before .before .before .before .before .if1 .left)) .grows .0 .2)
+) (compile-trees-at t) compile-trees.Post compile-trees-Inv-loop compile-trees-μ-loop
+compile-trees-add-compile-tree t c = omega (arith, child-is (c .before .before .before .before .before .before .before .before .before .before .before .before .loop .inv) (c .before .before .before .before .before .before .before .before .before .before .before .before .before .before .before .before .before .pre .1) (c .before .before .before .before .before .before .before .before .before .wide .ensures) (c .before .before .before .before .before .before .before .before .before .before .before .loop-test .taken) .grows .0 .2)
 
 compile-trees-compile-tree-requires : (t : ℕ) → compile-trees-lts.Need-compile-tree-requires (
   wide-reads.Asked,
@@ -538,12 +532,10 @@ compile-trees-compile-tree-requires : (t : ℕ) → compile-trees-lts.Need-compi
   grow-reads.Learnt,
   compile-tree-below t,
   compile-tree.Post,
-  compile-trees-below t,
-  compile-trees.Post,
-) (compile-trees-at t) compile-trees.Post
-compile-trees-compile-tree-requires t c κs = (omega (arith, c .before .before .before .before .before .before .before .before .before .before .before .before .before .before .before .before .before .pre .0), (next-is (c .before .before .before .before .before .before .before .before .before .before .before .before .before .before .before .before .before .pre .1) (c .before .before .before .before .before .before .before .before .before .before .wide .result) (c .before .before .before .before .before .before .before .before .before .before .wide .ensures) (c .before .before .before .before .before .before .before .before .before .before .before .before .if1 .left)) .tree _ _ _ (c .before .before .before .before .before .before .before .before .put-go .ensures) (c .before .before .before .before .grow .ensures))
+) (compile-trees-at t) compile-trees.Post compile-trees-Inv-loop compile-trees-μ-loop
+compile-trees-compile-tree-requires t c κs = (omega (arith, c .before .before .before .before .before .before .before .before .before .before .before .before .before .before .before .before .before .before .pre .0, c .before .before .before .before .before .before .before .before .before .before .before .before .before .loop .inv .past), child-is (c .before .before .before .before .before .before .before .before .before .before .before .before .before .loop .inv) (c .before .before .before .before .before .before .before .before .before .before .before .before .before .before .before .before .before .before .pre .1) (c .before .before .before .before .before .before .before .before .before .before .wide .ensures) (c .before .before .before .before .before .before .before .before .before .before .before .before .loop-test .taken) .tree _ _ _ (c .before .before .before .before .before .before .before .before .put-go .ensures) (c .before .before .before .before .grow .ensures))
 
-compile-trees-add-compile-trees : (t : ℕ) → compile-trees-lts.Need-add-compile-trees (
+compile-trees-add-con : (t : ℕ) → compile-trees-lts.Need-add-con (
   wide-reads.Asked,
   wide-reads.Learnt,
   put-go-reads.Asked,
@@ -552,12 +544,10 @@ compile-trees-add-compile-trees : (t : ℕ) → compile-trees-lts.Need-add-compi
   grow-reads.Learnt,
   compile-tree-below t,
   compile-tree.Post,
-  compile-trees-below t,
-  compile-trees.Post,
-) (compile-trees-at t) compile-trees.Post
-compile-trees-add-compile-trees t c = omega (arith, (c .before .before .before .before .before .before .before .before .before .before .before .before .before .before .before .before .before .before .before .before .before .before .before .pre .1) .cons)
+) (compile-trees-at t) compile-trees.Post compile-trees-Inv-loop compile-trees-μ-loop
+compile-trees-add-con t c = let h = still (c .before .before .before .before .before .before .before .before .before .before .before .before .before .before .before .before .before .before .loop .inv) (c .before .before .before .before .before .before .before .before .before .before .before .before .before .before .before .before .before .before .before .before .before .before .before .pre .1) in omega (arith, c .before .before .before .before .before .before .before .before .before .before .before .before .before .before .before .before .before .loop-test .taken, h .cons)
 
-compile-trees-sub-compile-trees : (t : ℕ) → compile-trees-lts.Need-sub-compile-trees (
+compile-trees-add-go : (t : ℕ) → compile-trees-lts.Need-add-go (
   wide-reads.Asked,
   wide-reads.Learnt,
   put-go-reads.Asked,
@@ -566,12 +556,10 @@ compile-trees-sub-compile-trees : (t : ℕ) → compile-trees-lts.Need-sub-compi
   grow-reads.Learnt,
   compile-tree-below t,
   compile-tree.Post,
-  compile-trees-below t,
-  compile-trees.Post,
-) (compile-trees-at t) compile-trees.Post
-compile-trees-sub-compile-trees t c = some-left _ (c .before .before .before .before .before .before .before .before .before .before .before .before .before .before .before .before .before .before .if1 .left)
+) (compile-trees-at t) compile-trees.Post compile-trees-Inv-loop compile-trees-μ-loop
+compile-trees-add-go t c = omega (arith, child-is (c .before .before .before .before .before .before .before .before .before .before .before .before .before .before .before .before .before .before .loop .inv) (c .before .before .before .before .before .before .before .before .before .before .before .before .before .before .before .before .before .before .before .before .before .before .before .pre .1) (c .before .before .before .before .before .before .before .before .before .before .before .before .before .before .before .wide .ensures) (c .before .before .before .before .before .before .before .before .before .before .before .before .before .before .before .before .before .loop-test .taken) .go-room, c .before .before .before .before .before .before .before .before .before .before .before .before .before .before .before .before .before .before .loop .inv .long, c .before .before .before .before .before .before .before .before .before .before .before .before .before .before .before .before .before .before .before .before .before .before .before .good .1 .1 .1 .1 .1 .1 .1 .1 .1 .0 .0)
 
-compile-trees-add-compile-trees-2 : (t : ℕ) → compile-trees-lts.Need-add-compile-trees-2 (
+compile-trees-sub-left : (t : ℕ) → compile-trees-lts.Need-sub-left (
   wide-reads.Asked,
   wide-reads.Learnt,
   put-go-reads.Asked,
@@ -580,12 +568,10 @@ compile-trees-add-compile-trees-2 : (t : ℕ) → compile-trees-lts.Need-add-com
   grow-reads.Learnt,
   compile-tree-below t,
   compile-tree.Post,
-  compile-trees-below t,
-  compile-trees.Post,
-) (compile-trees-at t) compile-trees.Post
-compile-trees-add-compile-trees-2 t c = omega (arith, (next-is (c .before .before .before .before .before .before .before .before .before .before .before .before .before .before .before .before .before .before .before .before .before .before .before .pre .1) (c .before .before .before .before .before .before .before .before .before .before .before .before .before .before .before .before .wide .result) (c .before .before .before .before .before .before .before .before .before .before .before .before .before .before .before .before .wide .ensures) (c .before .before .before .before .before .before .before .before .before .before .before .before .before .before .before .before .before .before .if1 .left)) .go-room)
+) (compile-trees-at t) compile-trees.Post compile-trees-Inv-loop compile-trees-μ-loop
+compile-trees-sub-left t c = c .before .before .before .before .before .before .before .before .before .before .before .before .before .before .before .before .before .loop-test .taken
 
-compile-trees-compile-trees-requires : (t : ℕ) → compile-trees-lts.Need-compile-trees-requires (
+compile-trees-loop-less : (t : ℕ) → compile-trees-lts.Need-loop-less (
   wide-reads.Asked,
   wide-reads.Learnt,
   put-go-reads.Asked,
@@ -594,10 +580,20 @@ compile-trees-compile-trees-requires : (t : ℕ) → compile-trees-lts.Need-comp
   grow-reads.Learnt,
   compile-tree-below t,
   compile-tree.Post,
-  compile-trees-below t,
-  compile-trees.Post,
-) (compile-trees-at t) compile-trees.Post
-compile-trees-compile-trees-requires t c κs = (omega (arith, c .before .before .before .before .before .before .before .before .before .before .before .before .before .before .before .before .before .before .before .before .before .before .before .before .pre .0, (next-is (c .before .before .before .before .before .before .before .before .before .before .before .before .before .before .before .before .before .before .before .before .before .before .before .before .pre .1) (c .before .before .before .before .before .before .before .before .before .before .before .before .before .before .before .before .before .wide .result) (c .before .before .before .before .before .before .before .before .before .before .before .before .before .before .before .before .before .wide .ensures) (c .before .before .before .before .before .before .before .before .before .before .before .before .before .before .before .before .before .before .before .if1 .left)) .inside, (next-is (c .before .before .before .before .before .before .before .before .before .before .before .before .before .before .before .before .before .before .before .before .before .before .before .before .pre .1) (c .before .before .before .before .before .before .before .before .before .before .before .before .before .before .before .before .before .wide .result) (c .before .before .before .before .before .before .before .before .before .before .before .before .before .before .before .before .before .wide .ensures) (c .before .before .before .before .before .before .before .before .before .before .before .before .before .before .before .before .before .before .before .if1 .left)) .on _ _ _ _ _ (c .before .before .before .before .before .before .before .before .before .before .before .before .before .before .before .put-go .ensures) (c .before .before .before .before .before .before .before .before .before .before .before .grow .ensures) (c .before .before .before .before .before .before .compile-tree .ensures .0 ((next-is (c .before .before .before .before .before .before .before .before .before .before .before .before .before .before .before .before .before .before .before .before .before .before .before .before .pre .1) (c .before .before .before .before .before .before .before .before .before .before .before .before .before .before .before .before .before .wide .result) (c .before .before .before .before .before .before .before .before .before .before .before .before .before .before .before .before .before .wide .ensures) (c .before .before .before .before .before .before .before .before .before .before .before .before .before .before .before .before .before .before .before .if1 .left)) .tree _ _ _ (c .before .before .before .before .before .before .before .before .before .before .before .before .before .before .before .put-go .ensures) (c .before .before .before .before .before .before .before .before .before .before .before .grow .ensures)))), ((next-is (c .before .before .before .before .before .before .before .before .before .before .before .before .before .before .before .before .before .before .before .before .before .before .before .before .pre .1) (c .before .before .before .before .before .before .before .before .before .before .before .before .before .before .before .before .before .wide .result) (c .before .before .before .before .before .before .before .before .before .before .before .before .before .before .before .before .before .wide .ensures) (c .before .before .before .before .before .before .before .before .before .before .before .before .before .before .before .before .before .before .before .if1 .left)) .rest _ _ _ _ _ _ (c .before .before .before .before .before .before .before .before .before .before .before .before .before .before .before .put-go .ensures) (c .before .before .before .before .before .before .before .before .before .before .before .grow .ensures) (c .before .before .before .before .before .before .compile-tree .ensures .0 ((next-is (c .before .before .before .before .before .before .before .before .before .before .before .before .before .before .before .before .before .before .before .before .before .before .before .before .pre .1) (c .before .before .before .before .before .before .before .before .before .before .before .before .before .before .before .before .before .wide .result) (c .before .before .before .before .before .before .before .before .before .before .before .before .before .before .before .before .before .wide .ensures) (c .before .before .before .before .before .before .before .before .before .before .before .before .before .before .before .before .before .before .before .if1 .left)) .tree _ _ _ (c .before .before .before .before .before .before .before .before .before .before .before .before .before .before .before .put-go .ensures) (c .before .before .before .before .before .before .before .before .before .before .before .grow .ensures))) (c .before .before .before .before .before .before .compile-tree .ensures .1)))
+) (compile-trees-at t) compile-trees.Post compile-trees-Inv-loop compile-trees-μ-loop
+compile-trees-loop-less t c = search needs
+
+compile-trees-loop-again : (t : ℕ) → compile-trees-lts.Need-loop-again (
+  wide-reads.Asked,
+  wide-reads.Learnt,
+  put-go-reads.Asked,
+  put-go-reads.Learnt,
+  grow-reads.Asked,
+  grow-reads.Learnt,
+  compile-tree-below t,
+  compile-tree.Post,
+) (compile-trees-at t) compile-trees.Post compile-trees-Inv-loop compile-trees-μ-loop
+compile-trees-loop-again t c = onward-more (c .before .before .before .before .before .before .before .before .before .before .before .before .before .before .before .before .before .before .loop .inv) (c .before .before .before .before .before .before .before .before .before .before .before .before .before .before .before .before .before .before .before .before .before .before .before .pre .1) (c .before .before .before .before .before .before .before .before .before .before .before .before .before .before .before .wide .ensures) (c .before .before .before .before .before .before .before .before .before .before .before .before .before .before .before .before .before .loop-test .taken) (c .before .before .before .before .before .before .before .before .before .before .before .before .before .put-go .ensures) (c .before .before .before .before .before .before .before .before .before .grow .ensures) (c .before .before .before .before .compile-tree .ensures .0) (c .before .before .before .before .compile-tree .ensures .1)
 
 compile-trees-same-length : (t : ℕ) → compile-trees-lts.Need-same-length (
   wide-reads.Asked,
@@ -608,10 +604,8 @@ compile-trees-same-length : (t : ℕ) → compile-trees-lts.Need-same-length (
   grow-reads.Learnt,
   compile-tree-below t,
   compile-tree.Post,
-  compile-trees-below t,
-  compile-trees.Post,
-) (compile-trees-at t) compile-trees.Post
-compile-trees-same-length t c = keeps-all (c .before .before .before .before .before .before .before .before .before .before .before .before .before .before .before .before .before .before .before .before .before .before .before .before .before .before .before .before .before .pre .1) _ _ _ _ ((next-is (c .before .before .before .before .before .before .before .before .before .before .before .before .before .before .before .before .before .before .before .before .before .before .before .before .before .before .before .before .before .pre .1) (c .before .before .before .before .before .before .before .before .before .before .before .before .before .before .before .before .before .before .before .before .before .before .wide .result) (c .before .before .before .before .before .before .before .before .before .before .before .before .before .before .before .before .before .before .before .before .before .before .wide .ensures) (c .before .before .before .before .before .before .before .before .before .before .before .before .before .before .before .before .before .before .before .before .before .before .before .before .if1 .left)) .grows .0 .2) (c .before .before .before .before .before .before .before .before .before .before .before .before .before .before .before .before .grow .ensures) (c .before .before .before .before .before .before .before .before .before .before .before .compile-tree .ensures .1) (c .before .before .before .before .compile-trees .ensures .1) .long
+) (compile-trees-at t) compile-trees.Post compile-trees-Inv-loop compile-trees-μ-loop
+compile-trees-same-length t c = c .before .loop .inv .kept .long
 
 compile-trees-same-length-2 : (t : ℕ) → compile-trees-lts.Need-same-length-2 (
   wide-reads.Asked,
@@ -622,12 +616,10 @@ compile-trees-same-length-2 : (t : ℕ) → compile-trees-lts.Need-same-length-2
   grow-reads.Learnt,
   compile-tree-below t,
   compile-tree.Post,
-  compile-trees-below t,
-  compile-trees.Post,
-) (compile-trees-at t) compile-trees.Post
-compile-trees-same-length-2 t c = trees-kept (c .before .before .before .before .before .before .before .before .before .before .before .before .before .before .before .before .before .before .before .before .before .before .before .before .before .before .before .before .before .pre .1) ((next-is (c .before .before .before .before .before .before .before .before .before .before .before .before .before .before .before .before .before .before .before .before .before .before .before .before .before .before .before .before .before .pre .1) (c .before .before .before .before .before .before .before .before .before .before .before .before .before .before .before .before .before .before .before .before .before .before .wide .result) (c .before .before .before .before .before .before .before .before .before .before .before .before .before .before .before .before .before .before .before .before .before .before .wide .ensures) (c .before .before .before .before .before .before .before .before .before .before .before .before .before .before .before .before .before .before .before .before .before .before .before .before .if1 .left)) .finish _ _ _ _ _ _ _ _ (c .before .before .before .before .before .before .before .before .before .before .before .before .before .before .before .before .before .before .before .before .put-go .ensures) (c .before .before .before .before .before .before .before .before .before .before .before .before .before .before .before .before .grow .ensures) (c .before .before .before .before .before .before .before .before .before .before .before .compile-tree .ensures .0 ((next-is (c .before .before .before .before .before .before .before .before .before .before .before .before .before .before .before .before .before .before .before .before .before .before .before .before .before .before .before .before .before .pre .1) (c .before .before .before .before .before .before .before .before .before .before .before .before .before .before .before .before .before .before .before .before .before .before .wide .result) (c .before .before .before .before .before .before .before .before .before .before .before .before .before .before .before .before .before .before .before .before .before .before .wide .ensures) (c .before .before .before .before .before .before .before .before .before .before .before .before .before .before .before .before .before .before .before .before .before .before .before .before .if1 .left)) .tree _ _ _ (c .before .before .before .before .before .before .before .before .before .before .before .before .before .before .before .before .before .before .before .before .put-go .ensures) (c .before .before .before .before .before .before .before .before .before .before .before .before .before .before .before .before .grow .ensures))) (c .before .before .before .before .before .before .before .before .before .before .before .compile-tree .ensures .1) (c .before .before .before .before .compile-trees .ensures .0 ((next-is (c .before .before .before .before .before .before .before .before .before .before .before .before .before .before .before .before .before .before .before .before .before .before .before .before .before .before .before .before .before .pre .1) (c .before .before .before .before .before .before .before .before .before .before .before .before .before .before .before .before .before .before .before .before .before .before .wide .result) (c .before .before .before .before .before .before .before .before .before .before .before .before .before .before .before .before .before .before .before .before .before .before .wide .ensures) (c .before .before .before .before .before .before .before .before .before .before .before .before .before .before .before .before .before .before .before .before .before .before .before .before .if1 .left)) .rest _ _ _ _ _ _ (c .before .before .before .before .before .before .before .before .before .before .before .before .before .before .before .before .before .before .before .before .put-go .ensures) (c .before .before .before .before .before .before .before .before .before .before .before .before .before .before .before .before .grow .ensures) (c .before .before .before .before .before .before .before .before .before .before .before .compile-tree .ensures .0 ((next-is (c .before .before .before .before .before .before .before .before .before .before .before .before .before .before .before .before .before .before .before .before .before .before .before .before .before .before .before .before .before .pre .1) (c .before .before .before .before .before .before .before .before .before .before .before .before .before .before .before .before .before .before .before .before .before .before .wide .result) (c .before .before .before .before .before .before .before .before .before .before .before .before .before .before .before .before .before .before .before .before .before .before .wide .ensures) (c .before .before .before .before .before .before .before .before .before .before .before .before .before .before .before .before .before .before .before .before .before .before .before .before .if1 .left)) .tree _ _ _ (c .before .before .before .before .before .before .before .before .before .before .before .before .before .before .before .before .before .before .before .before .put-go .ensures) (c .before .before .before .before .before .before .before .before .before .before .before .before .before .before .before .before .grow .ensures))) (c .before .before .before .before .before .before .before .before .before .before .before .compile-tree .ensures .1))))
+) (compile-trees-at t) compile-trees.Post compile-trees-Inv-loop compile-trees-μ-loop
+compile-trees-same-length-2 t c = c .before .loop .inv .long
 
-compile-trees-returns-2 : (t : ℕ) → compile-trees-lts.Need-returns-2 (
+compile-trees-returns : (t : ℕ) → compile-trees-lts.Need-returns (
   wide-reads.Asked,
   wide-reads.Learnt,
   put-go-reads.Asked,
@@ -636,10 +628,8 @@ compile-trees-returns-2 : (t : ℕ) → compile-trees-lts.Need-returns-2 (
   grow-reads.Learnt,
   compile-tree-below t,
   compile-tree.Post,
-  compile-trees-below t,
-  compile-trees.Post,
-) (compile-trees-at t) compile-trees.Post
-compile-trees-returns-2 t c = ((λ x. (next-is x (c .before .before .before .before .before .before .before .before .before .before .before .before .before .before .before .before .before .before .before .before .before .before .wide .result) (c .before .before .before .before .before .before .before .before .before .before .before .before .before .before .before .before .before .before .before .before .before .before .wide .ensures) (c .before .before .before .before .before .before .before .before .before .before .before .before .before .before .before .before .before .before .before .before .before .before .before .before .if1 .left)) .finish _ _ _ _ _ _ _ _ (c .before .before .before .before .before .before .before .before .before .before .before .before .before .before .before .before .before .before .before .before .put-go .ensures) (c .before .before .before .before .before .before .before .before .before .before .before .before .before .before .before .before .grow .ensures) (c .before .before .before .before .before .before .before .before .before .before .before .compile-tree .ensures .0 ((next-is x (c .before .before .before .before .before .before .before .before .before .before .before .before .before .before .before .before .before .before .before .before .before .before .wide .result) (c .before .before .before .before .before .before .before .before .before .before .before .before .before .before .before .before .before .before .before .before .before .before .wide .ensures) (c .before .before .before .before .before .before .before .before .before .before .before .before .before .before .before .before .before .before .before .before .before .before .before .before .if1 .left)) .tree _ _ _ (c .before .before .before .before .before .before .before .before .before .before .before .before .before .before .before .before .before .before .before .before .put-go .ensures) (c .before .before .before .before .before .before .before .before .before .before .before .before .before .before .before .before .grow .ensures))) (c .before .before .before .before .before .before .before .before .before .before .before .compile-tree .ensures .1) (c .before .before .before .before .compile-trees .ensures .0 ((next-is x (c .before .before .before .before .before .before .before .before .before .before .before .before .before .before .before .before .before .before .before .before .before .before .wide .result) (c .before .before .before .before .before .before .before .before .before .before .before .before .before .before .before .before .before .before .before .before .before .before .wide .ensures) (c .before .before .before .before .before .before .before .before .before .before .before .before .before .before .before .before .before .before .before .before .before .before .before .before .if1 .left)) .rest _ _ _ _ _ _ (c .before .before .before .before .before .before .before .before .before .before .before .before .before .before .before .before .before .before .before .before .put-go .ensures) (c .before .before .before .before .before .before .before .before .before .before .before .before .before .before .before .before .grow .ensures) (c .before .before .before .before .before .before .before .before .before .before .before .compile-tree .ensures .0 ((next-is x (c .before .before .before .before .before .before .before .before .before .before .before .before .before .before .before .before .before .before .before .before .before .before .wide .result) (c .before .before .before .before .before .before .before .before .before .before .before .before .before .before .before .before .before .before .before .before .before .before .wide .ensures) (c .before .before .before .before .before .before .before .before .before .before .before .before .before .before .before .before .before .before .before .before .before .before .before .before .if1 .left)) .tree _ _ _ (c .before .before .before .before .before .before .before .before .before .before .before .before .before .before .before .before .before .before .before .before .put-go .ensures) (c .before .before .before .before .before .before .before .before .before .before .before .before .before .before .before .before .grow .ensures))) (c .before .before .before .before .before .before .before .before .before .before .before .compile-tree .ensures .1)))), keeps-all (c .before .before .before .before .before .before .before .before .before .before .before .before .before .before .before .before .before .before .before .before .before .before .before .before .before .before .before .before .before .pre .1) _ _ _ _ ((next-is (c .before .before .before .before .before .before .before .before .before .before .before .before .before .before .before .before .before .before .before .before .before .before .before .before .before .before .before .before .before .pre .1) (c .before .before .before .before .before .before .before .before .before .before .before .before .before .before .before .before .before .before .before .before .before .before .wide .result) (c .before .before .before .before .before .before .before .before .before .before .before .before .before .before .before .before .before .before .before .before .before .before .wide .ensures) (c .before .before .before .before .before .before .before .before .before .before .before .before .before .before .before .before .before .before .before .before .before .before .before .before .if1 .left)) .grows .0 .2) (c .before .before .before .before .before .before .before .before .before .before .before .before .before .before .before .before .grow .ensures) (c .before .before .before .before .before .before .before .before .before .before .before .compile-tree .ensures .1) (c .before .before .before .before .compile-trees .ensures .1))
+) (compile-trees-at t) compile-trees.Post compile-trees-Inv-loop compile-trees-μ-loop
+compile-trees-returns t c = ((λ x. onward-end (c .before .loop .inv) x (c .loop-test .left)), c .before .loop .inv .kept)
 
 pub +compile-tree+compile-trees-spec : {M : Type 1} → statement M
 +compile-tree+compile-trees-spec =
@@ -694,22 +684,23 @@ pub +compile-tree+compile-trees-spec : {M : Type 1} → statement M
       grow-reads.Learnt,
       compile-tree-below t,
       compile-tree.Post,
-      compile-trees-below t,
-      compile-trees.Post,
     )
     (compile-trees-at t)
     compile-trees.Post
-    (compile-trees-returns t)
+    compile-trees-Inv-loop
+    compile-trees-μ-loop
+    (compile-trees-loop-holds t)
     (compile-trees-shared-slice-read-wide t)
     (compile-trees-wide-requires t)
     (compile-trees-put-go-requires t)
     (compile-trees-grow-requires t)
     (compile-trees-add-compile-tree t)
     (compile-trees-compile-tree-requires t)
-    (compile-trees-add-compile-trees t)
-    (compile-trees-sub-compile-trees t)
-    (compile-trees-add-compile-trees-2 t)
-    (compile-trees-compile-trees-requires t)
+    (compile-trees-add-con t)
+    (compile-trees-add-go t)
+    (compile-trees-sub-left t)
+    (compile-trees-loop-less t)
+    (compile-trees-loop-again t)
     (compile-trees-same-length t)
     (compile-trees-same-length-2 t)
-    (compile-trees-returns-2 t)
+    (compile-trees-returns t)
