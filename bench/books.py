@@ -2,58 +2,12 @@
 """books.py NAME SIZE [REPEAT [BUDGET]]: a stream of cases for `shelf`, of one of the documents' own programs at a size; `books.py list` names them.
 The programs: nrev (naive reverse of a list), fib (Fibonacci on Peano numbers), colour (map colouring), perm (permutation sort), back (reverse run backwards: which list reversed is this one? It goes on
 for ever: the size is the budget), lazy (a list built cell by cell, for the cost of looking for calls), chain (a long chain of forwards), nest and wide (SPLITs one below the other, of types with 1 and with 32 constructors, for the stack's depth)."""
-import struct
+import os
 import sys
 
-
-class Book:
-    """A book under way: names for constructors and functions, trees and terms as nested tuples."""
-
-    def __init__(self):
-        self.types, self.cons, self.funcs, self.trees = [], {}, {}, []
-
-    def type(self, *cons):
-        for name, arity in cons:
-            self.cons[name] = (len(self.cons), len(self.types), arity)
-        self.types.append(cons)
-
-    def declare(self, *funcs):
-        for name, arity in funcs:
-            self.funcs[name] = (len(self.funcs), arity)
-
-    def term(self, t):
-        kind = t[0]
-        if kind == "slot":
-            return bytes([9, t[1]])
-        if kind == "fresh":
-            return bytes([10, t[1]])
-        head = bytes([7, self.cons[kind][0]]) if kind in self.cons else bytes([8, self.funcs[kind][0]])
-        return head + b"".join(self.term(a) for a in t[1:])
-
-    def right(self, t, fresh=0):
-        return bytes([6, fresh]) + self.term(t)
-
-    def tree(self, t):
-        if t is None:
-            return bytes([11])
-        if t[0] == "split":
-            _, slot, cons, kids = t
-            ty = self.cons[cons][1]
-            return bytes([4, slot, ty]) + b"".join(self.tree(k) for k in kids)
-        rights = t[1:]
-        return bytes([5, len(rights)]) + b"".join(self.right(r) for r in rights)
-
-    def define(self, name, tree):
-        self.trees.append((name, tree))
-
-    def bytes(self):
-        out = b""
-        for cons in self.types:
-            out += bytes([1, len(cons)]) + b"".join(bytes([2, a]) for _, a in cons)
-        order = {name: tree for name, tree in self.trees}
-        for name in self.funcs:
-            out += bytes([3, self.funcs[name][1]]) + self.tree(order[name])
-        return out
+sys.path.insert(0, os.path.join(os.path.dirname(os.path.abspath(__file__)), "..", "tools"))
+import assembler
+from assembler import Book
 
 
 def s(i):
@@ -203,7 +157,7 @@ def case(name, size, budget=None):
     book, question = b.bytes(), b.right(t, fresh)
     if budget is None:
         budget = size if name == "back" else 1000000
-    return struct.pack("<7I", 16384, 1024, budget, 65536, 262144, len(book), len(question)) + book + question
+    return assembler.case((16384, 1024, budget, 65536, 262144), book, question)
 
 
 def main():
