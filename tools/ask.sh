@@ -1,11 +1,16 @@
 #!/usr/bin/env bash
-# ask.sh BOOK QUESTION: answers a question by a book, both written as examples/ has them (bytes in hex, comments behind #).
-# Builds the proved program `ask` where it is not there yet (some minutes, once). Prints its two lines: answer, place and the seven counts; the results in hex.
+# ask.sh BOOK QUESTION: answers a question over a book, both in readable hex: document 01's two lines.
+# A file holds bytes in hexadecimal, in any grouping; '#' starts a comment that goes to the end of the line. The program is built first if it is not there.
 set -eu
-[ $# -eq 2 ] || { sed -n '2,3s/^# //p' "$0"; exit 2; }
+[ $# -eq 2 ] || { sed -n 2,3p "$0" | cut -c3- >&2; exit 2; }
 root=$(cd "$(dirname "$0")/.." && pwd)
-if [ ! -x "$root/target/bin/ask" ]; then
-  echo "building ask: the engine is proved first" >&2
-  (cd "$root" && rt check ask) >&2
-fi
-python3 "$root/tools/hexbook.py" "$1" "$2" | "$root/target/bin/ask"
+digits() { sed 's/#.*//' "$1" | tr -d ' \t\r\n'; }
+book=$(digits "$1") question=$(digits "$2")
+case $book$question in *[!0-9a-fA-F]*) echo "ask.sh: not a hexadecimal digit" >&2; exit 2 ;; esac
+[ $((${#book} % 2)) -eq 0 ] && [ $((${#question} % 2)) -eq 0 ] || { echo "ask.sh: half a byte at the end" >&2; exit 2; }
+length=$((${#book} / 2))
+[ "$length" -le 65535 ] || { echo "ask.sh: a book that 2 bytes announce has at most 65,535" >&2; exit 2; }
+[ -x "$root/target/bin/ask" ] || (cd "$root" && rt check ask >&2)
+# the length, low byte first, the book, the question
+bytes=$(printf '%02x%02x%s%s' $((length % 256)) $((length / 256)) "$book" "$question" | sed 's/../\\x&/g')
+printf '%b' "$bytes" | "$root/target/bin/ask"

@@ -5,6 +5,7 @@ use crate::compile::compile;
 use crate::gen_book::{self, Sketch};
 use crate::gen_damage::damage;
 use crate::reading::read_book;
+use crate::rows::{ask_bytes, shelf_bytes};
 use crate::shelf::{run, Limits, Way, PROGRAM};
 use crate::{gen_edge, gen_prog};
 use std::io::{self, BufWriter, Write};
@@ -49,10 +50,18 @@ impl Rng {
 }
 
 pub fn write_stream(what: &str, seed: u64, count: u64) -> bool {
-    if !["check", "compile", "shelf"].contains(&what) {
-        return crate::usage();
-    }
     let mut out = BufWriter::new(io::stdout().lock());
+    match what {
+        "check" | "compile" | "shelf" | "long" => {}
+        "chosen" => {
+            let all = gen_prog::chosen().into_iter().chain(gen_edge::chosen());
+            let bytes: Vec<u8> = all.flat_map(|(l, b, q)| shelf_bytes(&l, &b, &q)).collect();
+            return out.write_all(&bytes).is_ok();
+        }
+        // one input, the case of that number
+        "ask" => return out.write_all(&ask_case(&mut Rng::for_case(seed, count))).is_ok(),
+        _ => return crate::usage(),
+    }
     for case in 0..count {
         let r = &mut Rng::for_case(seed, case);
         let mut bytes = Vec::new();
@@ -70,13 +79,8 @@ pub fn write_stream(what: &str, seed: u64, count: u64) -> bool {
                 [book, Vec::new()]
             }
             _ => {
-                let (l, book, question) = shelf_case(r);
-                for n in [l.nodes, l.pool, l.budget, l.results, l.code] {
-                    number(n as usize);
-                }
-                number(book.len());
-                number(question.len());
-                [book, question]
+                let (l, book, question) = if what == "long" { long_case(r) } else { shelf_case(r) };
+                [shelf_bytes(&l, &book, &question), Vec::new()]
             }
         };
         bytes.extend(parts.concat());
@@ -154,6 +158,52 @@ fn shelf_case(r: &mut Rng) -> (Limits, Vec<u8>, Vec<u8>) {
         put_out_of_range(r, &mut limits);
     }
     (limits, book, question)
+}
+
+/// A question, and now and then a book, that is longer than any that is accepted: some 1,048,576 bytes, which is as much as our shelf keeps of one.
+fn long_case(r: &mut Rng) -> (Limits, Vec<u8>, Vec<u8>) {
+    let (_, mut book, mut question) = shelf_case(r);
+    if r.chance(10) {
+        book = gen_edge::filler(r, 33_000, 90_000);
+    }
+    if r.chance(20) {
+        question = gen_edge::long_term();
+    }
+    let most = 1_048_576;
+    let length = match r.below(4) {
+        0 => r.between(most - 3, most + 4),
+        1 => r.between(most + 4_080, most + 4_110),
+        2 => r.between(most, most + 20_000),
+        _ => r.between(most + 1, 2 * most),
+    };
+    let start = question.len();
+    question.extend(gen_edge::filler(r, length, length + 2));
+    question.truncate(if r.chance(50) { length } else { question.len() });
+    // an unknown kind: most often around where the kept part ends, or the first chunk behind it, or the whole
+    if r.chance(60) {
+        let from = r.pick(&[start, most - 8, most, most + 4_090, question.len() - 6, start + 700]);
+        let at = (from + r.below(8)).min(question.len() - 1);
+        question[at] = r.pick(&[0x00, 0x0C, 0x20, 0x30, 0xFF]);
+    }
+    let mut limits = some_limits(r);
+    if r.chance(5) {
+        put_out_of_range(r, &mut limits);
+    }
+    (limits, book, question)
+}
+
+/// An input of document 01's program.
+fn ask_case(r: &mut Rng) -> Vec<u8> {
+    let (_, book, question) = shelf_case(r);
+    let mut bytes = ask_bytes(&book, &question);
+    match r.below(20) {
+        0 => bytes.truncate(r.below(bytes.len() + 1)),
+        1 => bytes.truncate(r.below(3)),
+        2 => bytes[r.below(2)] ^= 1 << r.below(8),
+        3 => bytes.resize(r.between(33_280, 33_285), r.pick(&[0, 11, 6])),
+        _ => {}
+    }
+    bytes
 }
 
 /// Limits in range, mostly small.

@@ -2,8 +2,9 @@
 //! beyond, misplaced records, the longest books and the longest code.
 
 use crate::cases::Rng;
-use crate::gen_prog::asm;
+use crate::gen_prog::{asm, FULL};
 use crate::reading::{read_book, MAX_BOOK};
+use crate::shelf::Limits;
 
 pub fn edge(r: &mut Rng) -> (Vec<u8>, Vec<u8>) {
     // the long ones seldom
@@ -177,6 +178,42 @@ fn long_code(length: usize) -> Vec<u8> {
         book.extend(asm("func 0 none"));
     }
     book
+}
+
+/// Records of all kinds, as many bytes as asked, with a last record that may be longer.
+pub fn filler(r: &mut Rng, from: usize, to: usize) -> Vec<u8> {
+    let length = r.between(from, to);
+    let mut bytes = Vec::with_capacity(length + 3);
+    while bytes.len() < length {
+        let kind = r.between(1, 11) as u8;
+        bytes.push(kind);
+        for _ in 0..crate::reading::body_length(kind).unwrap_or(0) {
+            bytes.push(r.below(256) as u8);
+        }
+    }
+    bytes
+}
+
+/// A question whose term has the 255 records that a term may have, for a book that begins with a constant and a unary constructor.
+pub fn long_term() -> Vec<u8> {
+    asm(&("right 0 ".to_string() + &"con 1 ".repeat(254) + "con 0"))
+}
+
+/// The lengths and the terms at their limits.
+pub fn chosen() -> Vec<(Limits, Vec<u8>, Vec<u8>)> {
+    let mut all = Vec::new();
+    let question = asm("right 1 fresh 0");
+    for length in [MAX_BOOK - 1, MAX_BOOK, MAX_BOOK + 1, MAX_BOOK + 2, 40_000, 70_000] {
+        all.push((FULL, exact_length(length), question.clone()));
+    }
+    let book = asm("type 2 cons 0 cons 1");
+    for records in [254, 255, 256] {
+        all.push((FULL, book.clone(), asm(&("right 0 ".to_string() + &"con 1 ".repeat(records - 1) + "con 0"))));
+    }
+    for length in [262_143, 262_144, 262_145] {
+        all.push((FULL, long_code(length), question.clone()));
+    }
+    all
 }
 
 /// A question for the book: its last function asked with variables, or one

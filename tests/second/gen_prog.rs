@@ -146,10 +146,52 @@ pub fn paper(r: &mut Rng) -> (Vec<u8>, Vec<u8>) {
     (from_hex(book), from_hex(question))
 }
 
+/// The largest limits.
+pub const FULL: Limits = Limits { nodes: 16_384, pool: 1_024, budget: 1_000_000, results: 65_536, code: 262_144 };
+
+/// Chosen cases: each limit at both ends of its range and one beyond, alone and with the others; a value 15,000 deep; terms of 2^60 leaves; a full pool.
+pub fn chosen() -> Vec<(Limits, Vec<u8>, Vec<u8>)> {
+    let mut all = Vec::new();
+    let library_book = library(1);
+    let questions: Vec<Vec<u8>> = ["right 2 add S S Z fresh 0", "right 2 perm C F C T N", "right 0 coins S S S Z", "right 1 fresh 0"].map(asm).to_vec();
+    // both ends of every range, together
+    for which in 0..32 {
+        let end = |bit: u32, low: u32, high: u32| if which >> bit & 1 == 0 { low } else { high };
+        let l = Limits { nodes: end(0, 1, 16_384), pool: end(1, 1, 1_024), budget: end(2, 0, 1_000_000), results: end(3, 0, 65_536), code: end(4, 0, 262_144) };
+        all.extend(questions.iter().map(|q| (l, library_book.clone(), q.clone())));
+        // a book with no function has no code
+        all.push((l, asm("type 2 cons 0 cons 1"), asm("right 1 con 1 fresh 0")));
+    }
+    // one beyond, alone
+    for q in &questions {
+        for l in [
+            Limits { nodes: 0, ..FULL },
+            Limits { nodes: 16_385, ..FULL },
+            Limits { pool: 0, ..FULL },
+            Limits { pool: 1_025, ..FULL },
+            Limits { budget: 1_000_001, ..FULL },
+            Limits { results: 65_537, ..FULL },
+            Limits { code: 262_145, ..FULL },
+            Limits { nodes: u32::MAX, pool: u32::MAX, budget: u32::MAX, results: u32::MAX, code: u32::MAX },
+        ] {
+            all.push((l, library_book.clone(), q.clone()));
+        }
+    }
+    // 200 constructors a turn, 75 times
+    all.push((FULL, library(200), asm(&format!("right 0 chunk {}", nat(75)))));
+    all.push((FULL, library(200), asm(&format!("right 0 P chunk {} coin", nat(25)))));
+    for leaf in ["F", "fresh 0", "coin", "P fresh 0 fresh 1"] {
+        all.push((FULL, library_book.clone(), asm(&format!("right 2 dd {} {leaf}", nat(60)))));
+    }
+    for coins in [9, 10, 11] {
+        all.push((FULL, library_book.clone(), asm(&format!("right 0 coins {}", nat(coins)))));
+    }
+    all
+}
+
 /// Large cases: values some 15,000 deep, 2^60 leaves, long stacks of calls,
 /// long rows of forwards, a full pool.
 pub fn large(r: &mut Rng) -> (Vec<u8>, Vec<u8>, Limits) {
-    let full = Limits { nodes: 16_384, pool: 1_024, budget: 1_000_000, results: 65_536, code: 262_144 };
     let (chunk, question) = match r.below(24) {
         // about 15,000 deep, with its result; then some that don't fit
         0..=4 => (200, format!("chunk {}", nat(r.between(70, 80)))),
@@ -170,5 +212,5 @@ pub fn large(r: &mut Rng) -> (Vec<u8>, Vec<u8>, Limits) {
         _ => (1, format!("dl {}", nat(r.between(40, 240)))),
     };
     let question = format!("right 2 {question}");
-    (library(chunk), asm(&question), full)
+    (library(chunk), asm(&question), FULL)
 }

@@ -32,16 +32,24 @@ fn main() {
             (Ok(seed), Ok(count)) => cases::write_stream(what, seed, count),
             _ => usage(),
         },
+        ["ask"] => ask(),
         ["vectors", file] => rows::vectors(file),
+        ["vectors", file, "stream"] => rows::vector_stream(file),
+        ["vectors", file, "lines"] => rows::vector_lines(file),
         ["rows"] => rows::rows(),
+        ["rows", "stream"] => rows::stream(),
+        ["rows", "shelved", file] => rows::shelved(file),
+        ["rows", "ask", folder] => rows::ask_files(folder),
+        ["rows", "asked", folder] => rows::asked(folder),
         _ => usage(),
     };
     exit(if good { 0 } else { 1 });
 }
 
 fn usage() -> bool {
-    eprintln!("second check | compile | shelf [machine] | rows | vectors FILE");
-    eprintln!("second gen check|compile|shelf SEED COUNT");
+    eprintln!("second check | compile | shelf [machine] | ask | rows | vectors FILE");
+    eprintln!("second gen check|compile|shelf|long|ask SEED COUNT | gen chosen 0 0");
+    eprintln!("second rows stream | rows shelved FILE | rows ask FOLDER | rows asked FOLDER | vectors FILE stream|lines");
     false
 }
 
@@ -138,13 +146,35 @@ fn shelf_case(input: &mut Input, way: Way) -> (String, bool) {
     }
 }
 
-/// Answer, place, the seven counts, the results in hex or `-`.
-fn shelf_line(outcome: &Outcome) -> String {
+/// Document 01's program: 2 bytes of book length, book, question; two lines.
+fn ask() -> bool {
+    let mut bytes = Vec::new();
+    if io::stdin().lock().read_to_end(&mut bytes).is_err() {
+        return false;
+    }
+    let outcome = match &bytes[..] {
+        [low, high, rest @ ..] if bytes.len() <= 33_282 && rest.len() >= u16::from_le_bytes([*low, *high]) as usize => {
+            let (book, question) = rest.split_at(u16::from_le_bytes([*low, *high]) as usize);
+            shelf::run(&shelf::PROGRAM, book, question, Way::Plain)
+        }
+        _ => Outcome { answer: 14, ..Outcome::default() },
+    };
+    println!("{}\n{}", told(&outcome), hex(&outcome.results));
+    true
+}
+
+/// Answer, place, the seven counts.
+fn told(outcome: &Outcome) -> String {
     let mut line = format!("{} {}", outcome.answer, outcome.place);
     for count in outcome.counts.list() {
         let _ = write!(line, " {count}");
     }
-    line + " " + &hex_or_dash(&outcome.results)
+    line
+}
+
+/// Answer, place, the seven counts, the results in hex or `-`.
+pub fn shelf_line(outcome: &Outcome) -> String {
+    told(outcome) + " " + &hex_or_dash(&outcome.results)
 }
 
 fn hex_or_dash(bytes: &[u8]) -> String {

@@ -13,6 +13,7 @@ pub use stream::read_head;
 pub use stream::read_question;
 pub use whole::run_case;
 pub use whole::take_case;
+pub use whole::work_size;
 
 // What the first pass over a question has seen so far: whole records, and the place after them; or a record that is not whole yet, its place, how many bytes of its body are
 // due after the next, and the place after what was passed; or a record of an unknown kind, and its place.

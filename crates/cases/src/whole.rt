@@ -1,5 +1,5 @@
 // What the engine gives for a case of which a part is kept.
-// Here, in order: an answer by the first pass over all of the question; the run of a case; a case read and run.
+// Here, in order: an answer by the first pass over all of the question; the run of a case; the work memory that limits ask; a case read and run.
 // Not here: why this is what the engine would give for all of it (proofs/Cases).
 //
 // What the engine is not shown. Of a book over 32,768 bytes it sees 32,769 or more: the answer depends only on the length being over 32,768. Of a question that is longer than
@@ -18,7 +18,8 @@ use run::Outcome;
 ghost use mathlib.Core.Path.{_≡_};
 ghost use Prim.Native.Nat.{_≤_, _<_};
 ghost use lib.ListN.{length};
-ghost use Rattle.run.specs.Given.{answerIs};
+ghost use Rattle.engine.specs.Run.{workSize};
+ghost use Rattle.run.specs.Given.{answerIs, limitsOf};
 ghost use Rattle.cases.specs.Parts.{found};
 ghost use Rattle.cases.specs.Whole.{first, settled, CaseRan, takenIs};
 
@@ -75,6 +76,13 @@ pub fn run_case(
         misfits: o.misfits,
         written: o.written,
     }
+}
+
+// The work memory that limits ask; for limits out of range, which are refused whatever is lent, no more than the largest ask.
+pub fn work_size(l: Limits) -> usize
+    ensures { λ r. ⌜ ((l .nodes ≤ 16384) × (l .pool ≤ 1024) → r ≡ workSize (limitsOf l)) ⌝ }
+{
+    40 * least(l.nodes, 16384) + 40 * least(l.pool, 1024) + 8192
 }
 
 // A case of these limits, with a book of b bytes and a question of q, read and run.

@@ -1,5 +1,5 @@
 // A shelf of cases from standard input, a line for each: how a second interpreter is run against ours.
-// Here, in order: a case's line; the memory lent; a case; all cases.
+// Here, in order: a case's line; a case, with the memory lent; all cases.
 // Not here: how a case is read and what of it the engine sees (crate cases), how an outcome is printed (crate lines). No contract can say what is read or written.
 //
 // A case: seven 4-byte little-endian numbers (nodes, pool, budget, results room, code room, book length, question length), the book, the question.
@@ -36,11 +36,6 @@ fn cut() -> bool {
     false
 }
 
-// The work memory that limits ask; for limits out of range, which are refused whatever is lent, no more than the largest ask.
-fn work_size(nodes: usize, pool: usize) -> usize {
-    40 * least(nodes, 16384) + 40 * least(pool, 1024) + 8192
-}
-
 // A case, lent of each memory what its limits ask, or all there is; whether to go on.
 fn answer(
     l: Limits,
@@ -54,7 +49,7 @@ fn answer(
 ) -> bool
     requires { ⌜ (32769 ≤ length (now book)) × (771 ≤ length (now question)) × (q < 4294967296) ⌝ }
 {
-    let w = least(work_size(l.nodes, l.pool), work.len());
+    let w = least(cases::work_size(l), work.len());
     let c = least(l.code, code.len());
     let r = least(l.results, results.len());
     let t = cases::take_case(
