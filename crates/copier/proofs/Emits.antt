@@ -8,7 +8,6 @@ use mathlib.Core.List.{List, [], _∷_, map, List·Memᴰ, List·Memᴰ·head, L
 use lib.ListN.{length, getD, drop, set, length-map, drop-of-length-le}
 use lib.Seq.{getD-take, getD-set-other, drop-cons}
 use Rattle.mem.specs.Words.{words}
-use Rattle.book.specs.Syntax.{con, fun}
 use Rattle.heap.specs.Graph.{Graph, Node, cell, var, fwd, node, follow, args, named, renamed}
 use Rattle.heap.specs.Build.{upFrom}
 use Rattle.heap.specs.Place.{Leads}
@@ -17,19 +16,10 @@ use Rattle.heap.proofs.Laws.Alike.{leads-follow, leads-keep}
 use Rattle.heap.proofs.Laws.Numbers.{upFrom-at, upFrom-length}
 use Rattle.heap.proofs.Laws.Reach.{mem-at, map-at}
 use Rattle.store.specs.Regions.{graphOf, listOf, placesOf, Memory, Did, setNode}
-use Rattle.store.specs.Rows.{seen}
 use Rattle.copier.specs.Listed.{seenIn, Listed, Kept}
-use Rattle.copier.specs.Poured.{placed, Spots, nodeWith, renumbered, Closed, copied, laidFrom, Emitted}
+use Rattle.copier.specs.Poured.{placed, Spots, Copies, renumbered, Closed, copied, laidFrom, Emitted}
 use Rattle.copier.proofs.Sights.{place-mem}
 use Rattle.copier.proofs.Listing.{kept-refl, kept-then, length-seen}
-
--- what was seen of a node, with its arguments by other numbers
-pub node-with : (f : ℕ → ℕ) (x : Node) → nodeWith (seen x) (map f (args x)) ≡ renumbered f x
-unfolding nodeWith seen args renumbered
-node-with f (cell (con c) hs) = refl
-node-with f (cell (fun k) hs) = refl
-node-with f var = refl
-node-with f (fwd k) = refl
 
 pub map-two : (f g h : ℕ → ℕ) (l : List ℕ) → ((x : ℕ) → List·Memᴰ x l → f x ≡ g (h x)) → map f l ≡ map g (map h l)
 map-two f g h [] e = refl
@@ -98,11 +88,17 @@ module _ (L made count : ℕ) (s₀ s : List ℕ) (D : Listed L count s₀) (roo
     under : (h : ℕ) → List·Memᴰ h (args (node g (getD l i 0))) → (follow (graphOf L s) h ≡ follow g h) × List·Memᴰ (follow g h) l
     under h w = let r = C .under (getD l i 0) h (mem-at l i inl′) w in (follow-like k h (r .1), r .0)
 
-    pub emit-below : getD (listOf L s) i 0 < L
-    emit-below = rw at-list (D .below (getD l i 0) (mem-at l i inl′))
-
-    pub emit-spots : made + count ≤ L → Spots L made s (args (node (graphOf L s) (getD (listOf L s) i 0)))
-    emit-spots fits = spots-are fits (args (node (graphOf L s) (getD (listOf L s) i 0))) (λ h w. under h (subst (λ (z : Node). List·Memᴰ h (args z)) same w))
+    -- node i of the list can be copied to its number
+    pub emit-copies : made + count ≤ L → Copies L made (getD (listOf L s) i 0) (made + i) s
+    emit-copies fits =
+        let there : (h : ℕ) → List·Memᴰ h (args (node (graphOf L s) (getD (listOf L s) i 0))) → List·Memᴰ h (args (node g (getD l i 0))) = λ h w. subst (λ (z : Node). List·Memᴰ h (args z)) same w in
+        record {
+          inside = rw at-list (C .inside (getD l i 0) (mem-at l i inl′));
+          beyond = omega arith;
+          fits = omega arith;
+          spots = spots-are fits (args (node (graphOf L s) (getD (listOf L s) i 0))) (λ h w. under h (there h w));
+          leads = λ h w. (let r = C .under (getD l i 0) h (mem-at l i inl′) (there h w) .1 in subst (λ (e : ℕ). Leads (λ y. y < made) (graphOf L s) e h) (sym (follow-like k h r)) (leads-keep (graphOf L s) (λ x p. p) (k .old) r));
+        }
 
     -- the node written is the copy's, at its number
     pub emit-is : renumbered (placed L made s) (node (graphOf L s) (getD (listOf L s) i 0)) ≡ moved ks (renamed g l (node g (getD l i 0)))

@@ -1,4 +1,4 @@
--- Laws in the very shape of what the code's steps need: arrays filled a word at a time, a node's arity, a place word, a node put, the place words set back.
+-- Laws in the very shape of what the code's steps need: arrays filled a word at a time, a node's arity, a place word, a node's arguments, the place words set back, the node written by what is seen.
 -- Assumes nothing.
 use Prim.Native.Nat.{ℕ, suc, _+_, _-_, _*_, _≤_, _<_}
 use native.Mathlib.Omega.{arith}
@@ -7,7 +7,7 @@ use native.Mathlib.Numerals.{add-one}
 use mathlib.Core.Path.{_≡_, refl, sym, ap, _∙_, subst}
 use mathlib.Core.List.{List, [], _∷_, _++_, map, List·Memᴰ, List·Memᴰ·head}
 use lib.ListN.{length, getD, take, drop, set, drop-of-length-le}
-use lib.Seq.{take-suc, take-suc-set, take-take, getD-take, drop-cons, length-take-le}
+use lib.Seq.{take-suc, take-suc-set, getD-take, drop-cons, length-take-le}
 use Rattle.mem.specs.Words.{words}
 use Rattle.heap.specs.Graph.{Graph, Node, cell, var, node, follow, args, sight, sweep}
 use Rattle.heap.proofs.Laws.Reach.{mem-at}
@@ -19,31 +19,12 @@ use Rattle.store.specs.declared.Head.the-variants.{Makes, Calls}
 use Rattle.store.specs.declared.NodeNo.{NodeNo}
 use Rattle.book.specs.declared.ConNo.{ConNo}
 use Rattle.book.specs.declared.FunNo.{FunNo}
-use Rattle.store.proofs.Laws.{countOf, count-seen, arg-word}
+use Rattle.store.proofs.Laws.{countOf, count-seen, arg-word, seen-con, seen-call, seen-var, seen-fwd}
 use Rattle.copier.specs.Listed.{seenIn, Below, Listed, Kept, Ends, Saw, cleared}
-use Rattle.copier.specs.Poured.{placed, Spots, nodeWith, renumbered, Placed}
+use Rattle.copier.specs.Poured.{placed, Spots, newArgs, renumbered, Placed}
 use Rattle.copier.proofs.Listing.{kept-refl, kept-then, length-seen, Owes, owes-sight}
-use Rattle.copier.proofs.Emits.{node-with}
-
--- the first eight
-eight : (a : List ℕ) → 8 ≤ length a → getD a 0 0 ∷ getD a 1 0 ∷ getD a 2 0 ∷ getD a 3 0 ∷ getD a 4 0 ∷ getD a 5 0 ∷ getD a 6 0 ∷ getD a 7 0 ∷ [] ≡ take 8 a
-eight [] p = absurd (omega arith)
-eight (a ∷ []) p = absurd (omega arith)
-eight (a ∷ b ∷ []) p = absurd (omega arith)
-eight (a ∷ b ∷ c ∷ []) p = absurd (omega arith)
-eight (a ∷ b ∷ c ∷ d ∷ []) p = absurd (omega arith)
-eight (a ∷ b ∷ c ∷ d ∷ e ∷ []) p = absurd (omega arith)
-eight (a ∷ b ∷ c ∷ d ∷ e ∷ f ∷ []) p = absurd (omega arith)
-eight (a ∷ b ∷ c ∷ d ∷ e ∷ f ∷ g ∷ []) p = absurd (omega arith)
-eight (a ∷ b ∷ c ∷ d ∷ e ∷ f ∷ g ∷ h ∷ l) p = refl
-
-pub first-eight : (a : List ℕ) → length a ≡ 9 → (k : ℕ) → k ≤ 8 → take k (getD a 0 0 ∷ getD a 1 0 ∷ getD a 2 0 ∷ getD a 3 0 ∷ getD a 4 0 ∷ getD a 5 0 ∷ getD a 6 0 ∷ getD a 7 0 ∷ []) ≡ take k a
-first-eight a e k h = ap (take k) (eight a (omega arith)) ∙ take-take k 8 a h
 
 -- a word more of an array
-pub fill-take : (l m : List ℕ) (j v : ℕ) → take j l ≡ take j m → j < length l → j < length m → v ≡ getD m j 0 → take (j + 1) (set l j v) ≡ take (j + 1) m
-fill-take l m j v e p q w = rw add-one (take-suc-set l j v p ∙ rw (e, w) (sym (take-suc m j 0 q)))
-
 map-snoc : (f : ℕ → ℕ) (l : List ℕ) (x : ℕ) → map f (l ++ x ∷ []) ≡ map f l ++ f x ∷ []
 map-snoc f [] x = refl
 map-snoc f (y ∷ l) x = ap (λ (m : List ℕ). f y ∷ m) (map-snoc f l x)
@@ -55,7 +36,7 @@ pub front-mem : (m : List ℕ) (n j : ℕ) → j < n → n ≤ length m → List
 front-mem m n j p q = let e = length-take-le n m q in subst (λ (x : ℕ). List·Memᴰ x (take n m)) (getD-take n m j 0 p) (mem-at (take n m) j (omega arith))
 
 -- how many arguments a node has, by what is seen of it
-args-short : (L n : ℕ) (s : List ℕ) → n < L → 16 * L ≤ length (words s) → length (args (node (graphOf L s) n)) ≤ 8
+pub args-short : (L n : ℕ) (s : List ℕ) → n < L → 16 * L ≤ length (words s) → length (args (node (graphOf L s) n)) ≤ 8
 args-short L n s lt room = go (decLt 8 (length (args (node (graphOf L s) n))))
   where
     go : Dec (8 < length (args (node (graphOf L s) n))) → length (args (node (graphOf L s) n)) ≤ 8
@@ -85,22 +66,6 @@ spot-placed L made s h n p e w = rw (w, e)
 -- a node put
 pub did-as : {L : ℕ} {s s′ : List ℕ} (n : ℕ) (x y : Node) → x ≡ y → Did L s s′ (setNode n x) → Did L s s′ (setNode n y)
 did-as {L} {s} {s′} n x y e d = subst (λ (z : Node). Did L s s′ (setNode n z)) e d
-
-pub with-con : (w : Seen) (c : ConNo) (j k n : ℕ) (xs hs : List ℕ) → w ≡ Con c j → k ≡ n → n ≤ 8 → ((i : ℕ) → i ≤ 8 → take i xs ≡ take i hs) → cell (symbolOf (Makes c)) (take k xs) ≡ nodeWith w (take n hs)
-unfolding nodeWith symbolOf
-with-con w c j k n xs hs e q b f = rw (e, q, f n b)
-
-pub with-call : (w : Seen) (c : FunNo) (j k n : ℕ) (xs hs : List ℕ) → w ≡ Call c j → k ≡ n → n ≤ 8 → ((i : ℕ) → i ≤ 8 → take i xs ≡ take i hs) → cell (symbolOf (Calls c)) (take k xs) ≡ nodeWith w (take n hs)
-unfolding nodeWith symbolOf
-with-call w c j k n xs hs e q b f = rw (e, q, f n b)
-
-pub with-var : (w : Seen) (hs : List ℕ) → w ≡ Var → var ≡ nodeWith w hs
-unfolding nodeWith
-with-var w hs e = rw e
-
-pub with-fwd : (w : Seen) (t : NodeNo) (hs : List ℕ) → w ≡ Fwd t → var ≡ nodeWith w hs
-unfolding nodeWith
-with-fwd w t hs e = rw e
 
 -- the first n handles of an array, one by one
 pub owes-next : {L : ℕ} {s₀ s s′ : List ℕ} {due : List ℕ} (k j r n : ℕ) (hs : List ℕ) → Owes L s₀ s due k (λ l. sight (graphOf L s₀) l (drop j (take n hs))) → j < n → n ≤ length hs → Saw L k (getD hs j 0 ∷ []) s s′ r
@@ -149,9 +114,22 @@ pub clears-end : (L i : ℕ) {s₀ s : List ℕ} (l : List ℕ) → Clears L s�
 unfolding cleared
 clears-end L i {s₀} {s} l o p = record { is = sym (ap (λ (z : List ℕ). cleared z (placesOf L s)) (drop-of-length-le l {i = i} p)) ∙ o .is; list = o .list; graph = o .graph; kept = o .kept }
 
--- the arguments of node i of the list
-pub under-args : (L k i n : ℕ) (rs s : List ℕ) → rs ≡ args (node (graphOf L s) n) → n ≡ getD (listOf L s) i 0 → i < k → rs ≡ args (node (graphOf L s) (getD (seenIn L k s) i 0))
-under-args L k i n rs s e f p = e ∙ ap (λ (x : ℕ). args (node (graphOf L s) x)) (f ∙ sym (getD-take k (listOf L s) i 0 p))
+-- the arguments of node i of the list, one by one
+pub under-args : (L k i n : ℕ) (s : List ℕ) → n ≡ getD (listOf L s) i 0 → i < k → args (node (graphOf L s) n) ≡ args (node (graphOf L s) (getD (seenIn L k s) i 0))
+under-args L k i n s f p = ap (λ (x : ℕ). args (node (graphOf L s) x)) (f ∙ sym (getD-take k (listOf L s) i 0 p))
+
+module _ {L : ℕ} {s₀ s : List ℕ} {due : List ℕ} (k j n : ℕ) (o : Owes L s₀ s due k (λ l. sight (graphOf L s₀) l (drop j (args (node (graphOf L s₀) n))))) (p : j < length (args (node (graphOf L s₀) n))) where
+  pub under-there : j < length (args (node (graphOf L s) n))
+  under-there = rw (o .graph) p
+
+  under-is : (h : ℕ) → h ≡ getD (args (node (graphOf L s) n)) j 0 → h ≡ getD (args (node (graphOf L s₀) n)) j 0
+  under-is h e = e ∙ ap (λ (g : Graph). getD (args (node g n)) j 0) (o .graph)
+
+  pub under-follow : (h : ℕ) → h ≡ getD (args (node (graphOf L s) n)) j 0 → Ends L (graphOf L s₀) (args (node (graphOf L s₀) n)) → follow (graphOf L s) h < L
+  under-follow h e z = rw (o .graph, under-is h e) (z (getD (args (node (graphOf L s₀) n)) j 0) (mem-at (args (node (graphOf L s₀) n)) j p))
+
+  pub under-next : (h r : ℕ) (s′ : List ℕ) → h ≡ getD (args (node (graphOf L s) n)) j 0 → Saw L k (h ∷ []) s s′ r → Owes L s₀ s′ due r (λ l. sight (graphOf L s₀) l (drop (j + 1) (args (node (graphOf L s₀) n))))
+  under-next h r s′ e w = owes-sight k j r (args (node (graphOf L s₀) n)) o p (subst (λ (x : ℕ). Saw L k (x ∷ []) s s′ r) (under-is h e) w)
 
 pub under-below : {L k i n : ℕ} (s : List ℕ) → 16 * L ≤ length (words s) → Listed L k s → n ≡ getD (listOf L s) i 0 → i < k → n < L
 under-below {L} {k} {i} s room D f p =
@@ -161,9 +139,23 @@ under-below {L} {k} {i} s room D f p =
 pub owes-start : (L k : ℕ) (s : List ℕ) → Listed L k s → Owes L s s (sweep L (graphOf L s) 0 (seenIn L k s)) k (λ l. sweep (L - 0) (graphOf L s) 0 l)
 owes-start L k s D = let e : L - 0 ≡ L = omega arith in record { is = ap (λ (n : ℕ). sweep n (graphOf L s) 0 (seenIn L k s)) e; listed = D; graph = refl; kept = kept-refl L s }
 
--- the node written for node i of the list
-pub spots-as : (L made n m : ℕ) (rs s : List ℕ) → rs ≡ args (node (graphOf L s) n) → n ≡ m → Spots L made s (args (node (graphOf L s) m)) → Spots L made s rs
-spots-as L made n m rs s e f t = subst (Spots L made s) (sym (e ∙ ap (λ (x : ℕ). args (node (graphOf L s) x)) f)) t
+-- the node written for node i of the list, by what is seen
+module _ (L made n m : ℕ) (s : List ℕ) (w : Seen) (e : w ≡ seen (node (graphOf L s) n)) (q : n ≡ m) where
+  at-list : renumbered (placed L made s) (node (graphOf L s) n) ≡ renumbered (placed L made s) (node (graphOf L s) m)
+  at-list = ap (λ (x : ℕ). renumbered (placed L made s) (node (graphOf L s) x)) q
 
-pub emit-node : (g : Graph) (f : ℕ → ℕ) (w : Seen) (n m : ℕ) (rs ks : List ℕ) → w ≡ seen (node g n) → rs ≡ args (node g n) → ks ≡ map f rs → n ≡ m → nodeWith w ks ≡ renumbered f (node g m)
-emit-node g f w n m rs ks a b c d = rw (c, b, a) (node-with f (node g n)) ∙ ap (λ (x : ℕ). renumbered f (node g x)) d
+  pub emit-con : (c : ConNo) (k : ℕ) → w ≡ Con c k → cell (symbolOf (Makes c)) (newArgs L made n s) ≡ renumbered (placed L made s) (node (graphOf L s) m)
+  unfolding newArgs renumbered symbolOf
+  emit-con c k f = sym (ap (renumbered (placed L made s)) (seen-con (node (graphOf L s) n) c k (sym f ∙ e) .0)) ∙ at-list
+
+  pub emit-call : (c : FunNo) (k : ℕ) → w ≡ Call c k → cell (symbolOf (Calls c)) (newArgs L made n s) ≡ renumbered (placed L made s) (node (graphOf L s) m)
+  unfolding newArgs renumbered symbolOf
+  emit-call c k f = sym (ap (renumbered (placed L made s)) (seen-call (node (graphOf L s) n) c k (sym f ∙ e) .0)) ∙ at-list
+
+  pub emit-var : w ≡ Var → var ≡ renumbered (placed L made s) (node (graphOf L s) m)
+  unfolding renumbered
+  emit-var f = sym (ap (renumbered (placed L made s)) (seen-var (node (graphOf L s) n) (sym f ∙ e))) ∙ at-list
+
+  pub emit-fwd : (t : NodeNo) → w ≡ Fwd t → var ≡ renumbered (placed L made s) (node (graphOf L s) m)
+  unfolding renumbered
+  emit-fwd t f = sym (ap (renumbered (placed L made s)) (seen-fwd (node (graphOf L s) n) t (sym f ∙ e))) ∙ at-list

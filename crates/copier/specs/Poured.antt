@@ -1,5 +1,5 @@
 -- A copy poured at the next free numbers: what is written for each node seen, and what pour_copy gives.
--- Here, in order: handles by their new numbers; a node with new numbers; what the nodes seen lead to; what code may rely on; the copy poured.
+-- Here, in order: handles by their new numbers; a node's copy; what the nodes seen lead to; what code may rely on; the copy poured.
 -- Not here: the list of nodes seen (Listed), the copy itself (heap, Graph), pour (standing, Shared).
 -- Assumes nothing.
 use Prim.Native.Nat.{ℕ, _+_, _-_, _≤_, _<_}
@@ -8,7 +8,6 @@ use mathlib.Core.Bool.{Bool, true, false}
 use mathlib.Core.List.{List, [], map, List·Memᴰ}
 use mathlib.Core.Option.{Option, none, some}
 use lib.ListN.{length, getD, drop}
-use Rattle.book.specs.Syntax.{con, fun}
 use Rattle.heap.specs.Graph.{Graph, Node, cell, var, fwd, node, follow, args, renamed, Comp, copy}
 use Rattle.heap.specs.Build.{upFrom}
 use Rattle.heap.specs.Place.{Leads}
@@ -16,8 +15,6 @@ use Rattle.heap.specs.Store.{Store, laid}
 use Rattle.engine.specs.Machine.{Held}
 use Rattle.standing.specs.Part.{Handle, Part}
 use Rattle.standing.specs.Shared.{pour}
-use Rattle.store.specs.declared.Seen.{Seen}
-use Rattle.store.specs.declared.Seen.the-variants.{Var, Con, Call, Fwd}
 use Rattle.store.specs.Regions.{graphOf, listOf, placesOf, storeOf}
 use Rattle.copier.specs.Listed.{rootsIn, Clean, Kept}
 use Rattle.copier.specs.declared.Roots.{Roots}
@@ -31,12 +28,17 @@ placed L made s h = made + (getD (placesOf L s) (follow (graphOf L s) h) 0 - 1)
 abbrev pub Spots : ℕ → ℕ → List ℕ → List ℕ → Type 0
 Spots L made s hs = (h : ℕ) → List·Memᴰ h hs → (follow (graphOf L s) h < L) × (0 < getD (placesOf L s) (follow (graphOf L s) h) 0) × (made + getD (placesOf L s) (follow (graphOf L s) h) 0 ≤ L)
 
--- what is seen, with these arguments
-unfoldable pub nodeWith : Seen → List ℕ → Node
-nodeWith Var hs = var
-nodeWith (Con c k) hs = cell (con (c .0)) hs
-nodeWith (Call f k) hs = cell (fun (f .0)) hs
-nodeWith (Fwd t) hs = var
+-- a node's arguments by their new numbers
+unfoldable pub newArgs : ℕ → ℕ → ℕ → List ℕ → List ℕ
+newArgs L made n s = map (placed L made s) (args (node (graphOf L s) n))
+
+-- node n can be copied to number `to`: n and all forwards from its arguments are made, `to` is not, and the nodes that they end at have places
+pub record Copies (L made n to : ℕ) (s : List ℕ) : Type 0 where
+  pub inside : n < made
+  pub beyond : made ≤ to
+  pub fits : to < L
+  pub spots : Spots L made s (args (node (graphOf L s) n))
+  pub leads : (h : ℕ) → List·Memᴰ h (args (node (graphOf L s) n)) → Leads (λ y. y < made) (graphOf L s) (follow (graphOf L s) h) h
 
 -- a node with new numbers
 unfoldable pub renumbered : (ℕ → ℕ) → Node → Node

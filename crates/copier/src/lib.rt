@@ -6,13 +6,14 @@ use store::Seen;
 ghost use mathlib.Core.Path.{_≡_};
 ghost use mathlib.Core.List.{[], _∷_, map};
 ghost use Prim.Native.Nat.{ℕ, _+_, _<_, _≤_};
-ghost use lib.ListN.{length, getD, take};
+ghost use lib.ListN.{length, getD};
 ghost use Rattle.heap.specs.Graph as g;
+ghost use Rattle.store.specs.Rows.{symbolOf};
 ghost use Rattle.store.specs.Regions.{Room, graphOf, listOf, placesOf, Did, setNode};
 ghost use Rattle.copier.specs.Listed.{rootsIn, seenIn, Clean, Below, Listed, Ends, Saw, Lists, Solid, cleared};
-ghost use Rattle.copier.specs.Poured.{placed, Spots, nodeWith, renumbered, Closed, laidFrom, Emitted, Placed, Walkable, PouredTo};
+ghost use Rattle.copier.specs.Poured.{placed, Spots, newArgs, Copies, renumbered, Closed, laidFrom, Emitted, Placed, Walkable, PouredTo};
 
-// Up to nine handles: a value's and its askers', or a node's arguments.
+// Up to nine handles: a value's and its askers'.
 pub struct Roots {
     pub n: usize,
     pub at: [u16; 9],
@@ -38,21 +39,6 @@ fn arity(s: &[u8], limit: usize, n: NodeNo) -> u16
         Seen::Var => 0,
         Seen::Fwd(_) => 0,
     }
-}
-
-// A node's arguments.
-fn handles_of(s: &[u8], limit: usize, n: NodeNo) -> Roots
-    requires { ⌜ Room limit (now s) ⌝ }
-    requires { ⌜ n .0 < limit ⌝ }
-    ensures { λ r. ⌜ (rootsIn r ≡ g.args (g.node (graphOf limit (now (s .entry))) (n .0))) × (r .n ≤ 8) ⌝ }
-{
-    let k = arity(s, limit, n) as usize;
-    let mut at = [0u16; 9];
-    for j in 0..k {
-        let h = store::arg(s, limit, n, j as u16);
-        at[j] = h.0;
-    }
-    Roots { n: k, at: at }
 }
 
 // The node that a handle ends at is seen: behind the list, unless it is there.
@@ -99,8 +85,13 @@ fn see_under(s: &mut [u8], limit: usize, count: usize, i: usize) -> usize
     ensures { λ r. ⌜ Saw limit count (g.args (g.node (graphOf limit (now (s .entry))) (getD (seenIn limit count (now (s .entry))) i 0))) (now (s .entry)) (now (s .exit)) r ⌝ }
 {
     let n = store::get_list(s, limit, i);
-    let hs = handles_of(s, limit, n);
-    see_all(s, limit, count, hs)
+    let a = arity(s, limit, n);
+    let mut k = count;
+    for j in 0..a {
+        let h = store::arg(s, limit, n, j);
+        k = see(s, limit, k, h);
+    }
+    k
 }
 
 // All nodes under those of the list are seen.
@@ -160,43 +151,36 @@ fn places_of(s: &[u8], limit: usize, made: usize, hs: Roots) -> Roots
     Roots { n: n, at: at }
 }
 
-// The first eight of nine.
-fn first_eight(a: [u16; 9]) -> [u16; 8]
-    ensures { λ r. ⌜ ((k : ℕ) → k ≤ 8 → take k r ≡ take k a) ⌝ }
-{
-    [a[0], a[1], a[2], a[3], a[4], a[5], a[6], a[7]]
-}
-
-// Node n becomes what was seen, with these arguments.
-fn put_node(s: &mut [u8], limit: usize, n: NodeNo, what: Seen, hs: Roots)
+// Node `to` becomes a cell with the arguments of node n, by their new numbers.
+fn put_copy(s: &mut [u8], limit: usize, made: usize, n: NodeNo, to: NodeNo, head: Head, count: u16)
     requires { ⌜ Room limit (now s) ⌝ }
-    requires { ⌜ n .0 < limit ⌝ }
-    requires { ⌜ hs .n ≤ 8 ⌝ }
-    ensures { λ _. ⌜ Did limit (now (s .entry)) (now (s .exit)) (setNode (n .0) (nodeWith what (rootsIn hs))) ⌝ }
+    requires { ⌜ Copies limit made (n .0) (to .0) (now s) ⌝ }
+    requires { ⌜ count ≡ length (g.args (g.node (graphOf limit (now s)) (n .0))) ⌝ }
+    ensures { λ _. ⌜ Did limit (now (s .entry)) (now (s .exit)) (setNode (to .0) (g.cell (symbolOf head) (newArgs limit made (n .0) (now (s .entry))))) ⌝ }
 {
-    let at = hs.at;
-    let k = hs.n as u16;
-    let xs = first_eight(at);
-    match what {
-        Seen::Con(c, _) => store::put_cell(s, limit, n, Head::Makes(c), xs, k),
-        Seen::Call(f, _) => store::put_cell(s, limit, n, Head::Calls(f), xs, k),
-        Seen::Var => store::put_var(s, limit, n),
-        Seen::Fwd(_) => store::put_var(s, limit, n),
+    store::put_head(s, limit, to, head, count);
+    for j in 0..count {
+        let h = store::arg(s, limit, n, j);
+        let v = place_of(s, limit, made, h);
+        store::put_arg(s, limit, to, j, v);
     }
 }
 
 // The copy of node i of the list is written at its new number.
 fn emit(s: &mut [u8], limit: usize, made: usize, i: usize)
     requires { ⌜ Room limit (now s) ⌝ }
-    requires { ⌜ (made + i < limit) × (getD (listOf limit (now s)) i 0 < limit) ⌝ }
-    requires { ⌜ Spots limit made (now s) (g.args (g.node (graphOf limit (now s)) (getD (listOf limit (now s)) i 0))) ⌝ }
+    requires { ⌜ Copies limit made (getD (listOf limit (now s)) i 0) (made + i) (now s) ⌝ }
     ensures { λ _. ⌜ Did limit (now (s .entry)) (now (s .exit)) (setNode (made + i) (renumbered (placed limit made (now (s .entry))) (g.node (graphOf limit (now (s .entry))) (getD (listOf limit (now (s .entry))) i 0)))) ⌝ }
 {
     let n = store::get_list(s, limit, i);
-    let hs = handles_of(s, limit, n);
-    let ks = places_of(s, limit, made, hs);
+    let to = NodeNo((made + i) as u16);
     let what = store::look(s, limit, n);
-    put_node(s, limit, NodeNo((made + i) as u16), what, ks);
+    match what {
+        Seen::Con(c, k) => put_copy(s, limit, made, n, to, Head::Makes(c), k),
+        Seen::Call(f, k) => put_copy(s, limit, made, n, to, Head::Calls(f), k),
+        Seen::Var => store::put_var(s, limit, to),
+        Seen::Fwd(_) => store::put_var(s, limit, to),
+    }
 }
 
 // The copies of all nodes of the list are written.

@@ -8,7 +8,7 @@ use native.Mathlib.Numerals.{add-one}
 use mathlib.Core.Path.{_≡_, refl, ap, sym, _∙_}
 use mathlib.Core.List.{List, []}
 use lib.ListN.{length, getD, take, drop, set, length-drop}
-use lib.Seq.{take-suc, take-suc-set, drop-set-add, getD-set-same, getD-take, getD-drop}
+use lib.Seq.{take-suc, take-suc-set, take-take, drop-set-add, getD-set-same, getD-take, getD-drop}
 use Rattle.mem.specs.Words.{words}
 use Rattle.mem.proofs.Laws.{wrote, only-wrote, only-then, take-kept, drop-kept, part-before, part-behind}
 use Rattle.store.specs.Regions.{restOf, Memory, Did, setRest}
@@ -110,9 +110,13 @@ unfolding rootsAt
 got-step L k j v s l l′ h h′ r e f g =
     roots-step l l′ (drop k (restOf L s)) j v (omega arith) (simp (length-drop, length-rest) (omega arith)) e f (g ∙ sym (getD-drop {A = ℕ} k (restOf L s) j 0))
 
-pub got-all : (L k n : ℕ) (s : List ℕ) (r : Roots) → r .n ≡ n → take n (r .at) ≡ rootsAt L s n k → RootsGot L k n s r
-unfolding rootsOf
-got-all L k n s r e f = record { count = e; is = rw e f }
+-- n of nine
+pub some-of : (n : ℕ) (l m : List ℕ) → n ≤ 9 → take 9 l ≡ take 9 m → take n l ≡ take n m
+some-of n l m h e = sym (take-take n 9 l h) ∙ ap (take n) e ∙ take-take n 9 m h
+
+pub got-all : (L k n : ℕ) (s : List ℕ) (r : Roots) → r .n ≡ n → n ≤ 9 → take 9 (r .at) ≡ rootsAt L s 9 k → RootsGot L k n s r
+unfolding rootsOf rootsAt
+got-all L k n s r e h f = record { count = e; is = rw e (some-of n (r .at) (drop k (restOf L s)) h f) }
 
 pub roots-none : (L k : ℕ) (s : List ℕ) → [] ≡ rootsAt L s 0 k
 unfolding rootsAt
@@ -132,13 +136,18 @@ pub row-got : (L n i : ℕ) (s : List ℕ) (h : Held) → RootsGot L (20 * i) n 
 unfolding heldIn rowOf
 row-got L n i s h g e = record { count = g .count; is = rw (g .is, e) }
 
--- a row written: handles, then the top
-pub row-put : (L i : ℕ) (h : Held) (s s′ s″ : List ℕ) → Sized (h .roots) → RestRoom L (20 * i + 20) s → RootsPut L (20 * i) (h .roots) s s′ → Did L s′ s″ (setRest (20 * i + 9) (h .top)) → RowPut L i h s s″
-unfolding heldIn rowOf
+-- nine handles written are n of them
+pub put-some : (L k n : ℕ) (l s s′ : List ℕ) → n ≤ 9 → RootsPut L k (record { n = 9; at = l }) s s′ → rootsAt L s′ n k ≡ take n l
+unfolding rootsOf rootsAt
+put-some L k n l s s′ h p = some-of n (drop k (restOf L s′)) l h (p .is)
+
+-- a row written: nine handles, then the top
+pub row-put : (L i : ℕ) (h : Held) (s s′ s″ : List ℕ) → Sized (h .roots) → RestRoom L (20 * i + 20) s → RootsPut L (20 * i) (record { n = 9; at = h .roots .at }) s s′ → Did L s′ s″ (setRest (20 * i + 9) (h .top)) → RowPut L i h s s″
+unfolding heldIn rowOf rootsOf
 row-put L i h s s′ s″ z r p d =
     let o : RestOnly L (20 * i + 9) (20 * i + 10) s′ s″ = only-word d (omega arith) (omega arith) in
     let t : getD (restOf L s″) (20 * i + 9) 0 ≡ h .top = ap (λ (m : Memory). getD (m .rest) (20 * i + 9) 0) (d .is) ∙ getD-set-same (restOf L s′) (20 * i + 9) (h .top) 0 (rw (length-rest L s′, p .only .long) (omega arith)) in
     record {
-      is = rw (roots-before o (h .roots .n) (20 * i) (omega arith), p .is, t, stack-stays o, stack-stays (p .only));
+      is = rw (roots-before o (h .roots .n) (20 * i) (omega arith), put-some L (20 * i) (h .roots .n) (h .roots .at) s s′ (z .1) p, t, stack-stays o, stack-stays (p .only));
       only = both-only (only-wider (p .only) (omega arith) (omega arith)) (only-wider o (omega arith) (omega arith));
     }
