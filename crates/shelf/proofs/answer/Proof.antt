@@ -10,7 +10,6 @@ use Rattle.cases.proofs.take_case.Reads as take-case-reads
 use Rattle.lines.proofs.least.Reads as least-reads
 use Rattle.shelf.proofs.cut.Reads as cut-reads
 use Rattle.shelf.proofs.print.Reads as print-reads
-use Rattle.shelf.proofs.work_size.Reads as work-size-reads
 
 -- src/main.rt:57:19
 work-size-requires : tie.Need-work-size-requires
