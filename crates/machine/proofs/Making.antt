@@ -27,7 +27,7 @@ use Rattle.machine.specs.declared.Regs.{Regs}
 use Rattle.machine.specs.declared.Ran.{Ran}
 use Rattle.machine.specs.declared.Cur.the-variants.{Empty, Holds}
 use Rattle.machine.specs.declared.Stop.the-variants.{Broken, Full}
-use Rattle.machine.specs.declared.Next.the-variants.{Goes, Ends}
+use mathlib.Core.Bool.{true, false}
 
 length-pre : (L base : ℕ) (s : List ℕ) (k : ℕ) → length (preTerms L base s k) ≡ k
 unfolding preTerms
@@ -38,12 +38,12 @@ length-part L base j s room h = rw (length-drop, length-rest) (omega arith)
 
 -- a term pushed
 module _ (L base : ℕ) (code : List ℕ) (r : Regs) (s : List ℕ) (fine : Fine r) (v : ℕ) where
-  pub push-full : termBound ≤ r .terms → Went L base code r s s (record { regs = r; next = Ends Broken }) (λ p. pushed v (stateOf L base code r s))
+  pub push-full : termBound ≤ r .terms → Went L base code r s s (record { regs = r; goes = false; stop = Broken }) (λ p. pushed v (stateOf L base code r s))
   unfolding pushed Roomy stateOf
   push-full h = record { is = λ p q u room. absurd (omega (arith, length-pre L base s (r .terms))); frame = frame-same fine }
 
   pub push-goes : {s′ : List ℕ} → Space L base s → r .terms < termBound → Did L s s′ (setRest (base + termsAt + r .terms) v)
-      → Went L base code r s s′ (record { regs = record { pc = r .pc; top = r .top; cur = r .cur; terms = r .terms + 1; vars = r .vars; made = r .made }; next = Goes }) (λ p. pushed v (stateOf L base code r s))
+      → Went L base code r s s′ (record { regs = record { pc = r .pc; top = r .top; cur = r .cur; terms = r .terms + 1; vars = r .vars; made = r .made }; goes = true; stop = Broken }) (λ p. pushed v (stateOf L base code r s))
   unfolding pushed ranOf stateOf stackOf preTerms freeVars storeOf
   push-goes {s′} sp lt d =
       let links : linksOf L s′ ≡ linksOf L s = ap (λ (m : Memory). m .links) (d .is) in
@@ -61,7 +61,7 @@ module _ (L base : ℕ) (code : List ℕ) (r : Regs) (s : List ℕ) (fine : Fine
 
 -- PUSH and MAKEVAR
 module _ (L base : ℕ) (code : List ℕ) (r : Regs) (s : List ℕ) (fine : Fine r) where
-  pub push-lost : r .cur ≡ Empty → Went L base code r s s (record { regs = r; next = Ends Broken }) (λ p. runOn p c.push (stateOf L base code r s))
+  pub push-lost : r .cur ≡ Empty → Went L base code r s s (record { regs = r; goes = false; stop = Broken }) (λ p. runOn p c.push (stateOf L base code r s))
   unfolding stopOf stateOf curOf m.run m.need
   push-lost e = ended L base code r s fine Broken (λ p h u. sym (rw e))
 
@@ -69,7 +69,7 @@ module _ (L base : ℕ) (code : List ℕ) (r : Regs) (s : List ℕ) (fine : Fine
   unfolding stateOf pushed curOf m.run m.need
   push-is n e w = went-as (λ p h u. rw e) w
 
-  pub var-lost : (v : ℕ) → r .vars ≤ v → Went L base code r s s (record { regs = r; next = Ends Broken }) (λ p. runOn p (c.makeVar v) (stateOf L base code r s))
+  pub var-lost : (v : ℕ) → r .vars ≤ v → Went L base code r s s (record { regs = r; goes = false; stop = Broken }) (λ p. runOn p (c.makeVar v) (stateOf L base code r s))
   unfolding stopOf stateOf freeVars m.run m.need
   var-lost v h = ended L base code r s fine Broken (λ p q u. sym (rw (elem-none (freeVars L base s (r .vars)) v (rw length-take (omega arith)))))
 
@@ -84,7 +84,7 @@ module _ (L base : ℕ) (code : List ℕ) (r : Regs) (s : List ℕ) (fine : Fine
 
 -- a node made
 module _ (L base : ℕ) (code : List ℕ) (r : Regs) (s : List ℕ) (fine : Fine r) where
-  pub anon-full : L ≤ r .made → Went L base code r s s (record { regs = r; next = Ends Full }) (λ p. runOn p c.makeAnon (stateOf L base code r s))
+  pub anon-full : L ≤ r .made → Went L base code r s s (record { regs = r; goes = false; stop = Full }) (λ p. runOn p c.makeAnon (stateOf L base code r s))
   unfolding stopOf stateOf m.run m.made
   anon-full h = ended L base code r s fine Full (λ p q u. sym (rw (make-none L (r .made) var s h)))
 
@@ -109,14 +109,14 @@ module _ (L base : ℕ) (code : List ℕ) (r : Regs) (s : List ℕ) (fine : Fine
 
   -- MAKETERM
   module _ (y : Symbol) (n : ℕ) (b : ByTables base (restOf L s) (λ p. n ≡ m.arityOf p y)) where
-    pub term-many : 8 < n → Went L base code r s s (record { regs = r; next = Ends Broken }) (λ p. runOn p (c.makeTerm y) (stateOf L base code r s))
+    pub term-many : 8 < n → Went L base code r s s (record { regs = r; goes = false; stop = Broken }) (λ p. runOn p (c.makeTerm y) (stateOf L base code r s))
     term-many h = ended L base code r s fine Broken (λ p q u. absurd (omega (arith, b p q, q .small y)))
 
-    pub term-lost : r .terms < n → Went L base code r s s (record { regs = r; next = Ends Broken }) (λ p. runOn p (c.makeTerm y) (stateOf L base code r s))
+    pub term-lost : r .terms < n → Went L base code r s s (record { regs = r; goes = false; stop = Broken }) (λ p. runOn p (c.makeTerm y) (stateOf L base code r s))
     unfolding stopOf stateOf m.run m.when
     term-lost h = ended L base code r s fine Broken (λ p q u. sym (rw (← b p q, length-pre L base s (r .terms), lt-leb n (r .terms) h)))
 
-    pub term-full : n ≤ r .terms → L ≤ r .made → Went L base code r s s (record { regs = r; next = Ends Full }) (λ p. runOn p (c.makeTerm y) (stateOf L base code r s))
+    pub term-full : n ≤ r .terms → L ≤ r .made → Went L base code r s s (record { regs = r; goes = false; stop = Full }) (λ p. runOn p (c.makeTerm y) (stateOf L base code r s))
     unfolding stopOf stateOf m.run m.when m.made
     term-full h f = ended L base code r s fine Full (λ p q u. sym (rw (← b p q, length-pre L base s (r .terms), le-leb n (r .terms) h, make-none L (r .made) (cell y (take n (preTerms L base s (r .terms)))) s f)))
 
@@ -130,13 +130,13 @@ module _ (L base : ℕ) (code : List ℕ) (r : Regs) (s : List ℕ) (fine : Fine
 
   -- STOREVAR
   module _ (v : ℕ) where
-    pub store-lost : r .vars < v → Space L base s → Went L base code r s s (record { regs = r; next = Ends Broken }) (λ p. runOn p (c.storeVar v) (stateOf L base code r s))
+    pub store-lost : r .vars < v → Space L base s → Went L base code r s s (record { regs = r; goes = false; stop = Broken }) (λ p. runOn p (c.storeVar v) (stateOf L base code r s))
     unfolding stopOf stateOf freeVars m.run m.when
     store-lost h sp =
         let long : length (take (r .vars) (drop (base + varsAt) (restOf L s))) ≡ r .vars = length-take-le (r .vars) (drop (base + varsAt) (restOf L s)) (omega (arith, length-part L base varsAt s (sp .2) (omega arith))) in
         ended L base code r s fine Broken (λ p q u. sym (rw (long, lt-leb v (r .vars) h)))
 
-    pub store-full : v ≤ r .vars → Space L base s → L ≤ r .made → Went L base code r s s (record { regs = r; next = Ends Full }) (λ p. runOn p (c.storeVar v) (stateOf L base code r s))
+    pub store-full : v ≤ r .vars → Space L base s → L ≤ r .made → Went L base code r s s (record { regs = r; goes = false; stop = Full }) (λ p. runOn p (c.storeVar v) (stateOf L base code r s))
     unfolding stopOf stateOf freeVars m.run m.when m.made
     store-full h sp f =
         let long : length (take (r .vars) (drop (base + varsAt) (restOf L s))) ≡ r .vars = length-take-le (r .vars) (drop (base + varsAt) (restOf L s)) (omega (arith, length-part L base varsAt s (sp .2) (omega arith))) in
@@ -144,7 +144,7 @@ module _ (L base : ℕ) (code : List ℕ) (r : Regs) (s : List ℕ) (fine : Fine
 
     pub store-is : {s′ s″ : List ℕ} (k : ℕ) → v ≤ r .vars → v < 256 → Space L base s → r .made < L → Did L s s′ (setNode (r .made) var) → Did L s′ s″ (setRest (base + varsAt + v) (r .made))
         → ((w : List ℕ) → 576 ≤ length w → take k (set w v (r .made)) ≡ m.put (take (r .vars) w) v (r .made)) → k ≤ 256
-        → Went L base code r s s″ (record { regs = record { pc = r .pc; top = r .top; cur = r .cur; terms = r .terms; vars = k; made = r .made + 1 }; next = Goes }) (λ p. runOn p (c.storeVar v) (stateOf L base code r s))
+        → Went L base code r s s″ (record { regs = record { pc = r .pc; top = r .top; cur = r .cur; terms = r .terms; vars = k; made = r .made + 1 }; goes = true; stop = Broken }) (λ p. runOn p (c.storeVar v) (stateOf L base code r s))
     unfolding ranOf stateOf stackOf preTerms freeVars storeOf m.run m.when m.made
     store-is {s′} {s″} k h small sp f d e reg few =
         let long : length (take (r .vars) (drop (base + varsAt) (restOf L s))) ≡ r .vars = length-take-le (r .vars) (drop (base + varsAt) (restOf L s)) (omega (arith, length-part L base varsAt s (sp .2) (omega arith))) in

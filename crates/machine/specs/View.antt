@@ -4,6 +4,7 @@
 -- Assumes nothing.
 use Prim.Native.Nat.{ℕ, zero, suc, _+_, _-_}
 use mathlib.Core.List.{List, [], _∷_, reverse}
+use mathlib.Core.Bool.{Bool, true, false}
 use mathlib.Core.Option.{Option, none, some}
 use mathlib.Core.Path.{_≡_}
 use lib.ListN.{getD, getElem?, take, drop}
@@ -28,8 +29,6 @@ use Rattle.machine.specs.declared.Op.{Op}
 use Rattle.machine.specs.declared.Op.the-variants.{Load, Branch, Go, Push, Pop, MakeAnon, StoreVar, MakeVar, MakeTerm, Replace, Narrow, Choice, Fail, Wrong}
 use Rattle.machine.specs.declared.Stop.{Stop}
 use Rattle.machine.specs.declared.Stop.the-variants.{Demand, Becomes, Parts, Fails, Misfits, Broken, Full}
-use Rattle.machine.specs.declared.Next.{Next}
-use Rattle.machine.specs.declared.Next.the-variants.{Goes, Ends}
 
 -- the nodes from `top` on along the links, at most n; a link is the next node + 1, and 0 ends it
 unfoldable pub chain : ℕ → List ℕ → ℕ → List ℕ
@@ -138,6 +137,6 @@ stopOf L base s r Broken = m.broken
 stopOf L base s r Full = m.full
 
 -- how an instruction ended: the code goes on, or ends
-unfoldable pub ranOf : ℕ → ℕ → List ℕ → List ℕ → Regs → Next → m.Step Store
-ranOf L base code s r Goes = m.on (stateOf L base code r s)
-ranOf L base code s r (Ends x) = m.ends (stopOf L base s r x)
+unfoldable pub ranOf : ℕ → ℕ → List ℕ → List ℕ → Regs → Bool → Stop → m.Step Store
+ranOf L base code s r true x = m.on (stateOf L base code r s)
+ranOf L base code s r false x = m.ends (stopOf L base s r x)

@@ -60,15 +60,12 @@ pub enum Stop {
     Full,
 }
 
-// How an instruction ends: the code goes on, or ends.
-pub enum Next {
-    Goes,
-    Ends(Stop),
-}
-
+// What an instruction gives: the registers, whether the code goes on, and how it ends if not. A flag and not a case of its own,
+// so that compiled code keeps it out of memory.
 pub struct Ran {
     pub regs: Regs,
-    pub next: Next,
+    pub goes: bool,
+    pub stop: Stop,
 }
 
 pub struct Ended {

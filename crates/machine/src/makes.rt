@@ -1,6 +1,5 @@
 // The instructions that write: PUSH, MAKEANON, STOREVAR, MAKEVAR, MAKETERM. Each is one equation, as in ops.
 use crate::Cur;
-use crate::Next;
 use crate::Ran;
 use crate::Regs;
 use crate::Stop;
@@ -25,7 +24,8 @@ pub fn push_term(s: &mut [u8], limit: usize, base: usize, code: &[u8], regs: Reg
     if regs.terms >= 320 {
         return Ran {
             regs: regs,
-            next: Next::Ends(Stop::Broken),
+            goes: false,
+            stop: Stop::Broken,
         };
     }
     store::put_rest(s, limit, base + 2696 + regs.terms, n.0);
@@ -33,7 +33,8 @@ pub fn push_term(s: &mut [u8], limit: usize, base: usize, code: &[u8], regs: Reg
     r.terms = regs.terms + 1;
     Ran {
         regs: r,
-        next: Next::Goes,
+        goes: true,
+        stop: Stop::Broken,
     }
 }
 
@@ -47,7 +48,8 @@ pub fn push(s: &mut [u8], limit: usize, base: usize, code: &[u8], regs: Regs) ->
     let Cur::Holds(h) = cur else {
         return Ran {
             regs: regs,
-            next: Next::Ends(Stop::Broken),
+            goes: false,
+            stop: Stop::Broken,
         };
     };
     push_term(s, limit, base, code, regs, h)
@@ -62,7 +64,8 @@ pub fn make_anon(s: &mut [u8], limit: usize, base: usize, code: &[u8], regs: Reg
     if regs.made >= limit {
         return Ran {
             regs: regs,
-            next: Next::Ends(Stop::Full),
+            goes: false,
+            stop: Stop::Full,
         };
     }
     let k = NodeNo(regs.made as u16);
@@ -82,13 +85,15 @@ pub fn store_var(s: &mut [u8], limit: usize, base: usize, code: &[u8], regs: Reg
     if at > regs.vars {
         return Ran {
             regs: regs,
-            next: Next::Ends(Stop::Broken),
+            goes: false,
+            stop: Stop::Broken,
         };
     }
     if regs.made >= limit {
         return Ran {
             regs: regs,
-            next: Next::Ends(Stop::Full),
+            goes: false,
+            stop: Stop::Full,
         };
     }
     store::put_var(s, limit, NodeNo(regs.made as u16));
@@ -100,7 +105,8 @@ pub fn store_var(s: &mut [u8], limit: usize, base: usize, code: &[u8], regs: Reg
     }
     Ran {
         regs: r,
-        next: Next::Goes,
+        goes: true,
+        stop: Stop::Broken,
     }
 }
 
@@ -114,7 +120,8 @@ pub fn make_var(s: &mut [u8], limit: usize, base: usize, code: &[u8], regs: Regs
     if at >= regs.vars {
         return Ran {
             regs: regs,
-            next: Next::Ends(Stop::Broken),
+            goes: false,
+            stop: Stop::Broken,
         };
     }
     let k = store::get_rest(s, limit, base + 2440 + at);
@@ -153,19 +160,22 @@ pub fn make_term(
     if n > 8 {
         return Ran {
             regs: regs,
-            next: Next::Ends(Stop::Broken),
+            goes: false,
+            stop: Stop::Broken,
         };
     }
     if n > regs.terms {
         return Ran {
             regs: regs,
-            next: Next::Ends(Stop::Broken),
+            goes: false,
+            stop: Stop::Broken,
         };
     }
     if regs.made >= limit {
         return Ran {
             regs: regs,
-            next: Next::Ends(Stop::Full),
+            goes: false,
+            stop: Stop::Full,
         };
     }
     let args = top_terms(s, limit, base, regs.terms, n);

@@ -2,7 +2,6 @@
 // definition says of its instruction; `regs.pc` is behind the instruction already. Those that write are in makes.
 use crate::Arm;
 use crate::Cur;
-use crate::Next;
 use crate::Ran;
 use crate::Regs;
 use crate::Stop;
@@ -112,14 +111,16 @@ pub fn load(
     if regs.top == 0 {
         return Ran {
             regs: regs,
-            next: Next::Ends(Stop::Broken),
+            goes: false,
+            stop: Stop::Broken,
         };
     }
     let k = walk(s, limit, code, from, count, NodeNo(regs.top - 1));
     let Cur::Holds(h) = k else {
         return Ran {
             regs: regs,
-            next: Next::Ends(Stop::Broken),
+            goes: false,
+            stop: Stop::Broken,
         };
     };
     Ran {
@@ -131,7 +132,8 @@ pub fn load(
             vars: regs.vars,
             made: regs.made,
         },
-        next: Next::Goes,
+        goes: true,
+        stop: Stop::Broken,
     }
 }
 
@@ -147,7 +149,8 @@ pub fn branch(s: &[u8], limit: usize, base: usize, code: &[u8], regs: Regs, t: u
     let Cur::Holds(h) = cur else {
         return Ran {
             regs: regs,
-            next: Next::Ends(Stop::Broken),
+            goes: false,
+            stop: Stop::Broken,
         };
     };
     let at = store::follow(s, limit, h);
@@ -155,7 +158,8 @@ pub fn branch(s: &[u8], limit: usize, base: usize, code: &[u8], regs: Regs, t: u
     match k {
         Seen::Call(_, _) => Ran {
             regs: regs,
-            next: Next::Ends(Stop::Demand(at)),
+            goes: false,
+            stop: Stop::Demand(at),
         },
         Seen::Con(y, _) => {
             let a = tables::arm_of(s, limit, base, t, y);
@@ -165,12 +169,14 @@ pub fn branch(s: &[u8], limit: usize, base: usize, code: &[u8], regs: Regs, t: u
                     r.pc = code::jump_to(code, regs.pc, (j as usize) + 1);
                     Ran {
                         regs: r,
-                        next: Next::Goes,
+                        goes: true,
+                        stop: Stop::Broken,
                     }
                 }
                 Arm::None => Ran {
                     regs: regs,
-                    next: Next::Ends(Stop::Misfits),
+                    goes: false,
+                    stop: Stop::Misfits,
                 },
             }
         }
@@ -179,12 +185,14 @@ pub fn branch(s: &[u8], limit: usize, base: usize, code: &[u8], regs: Regs, t: u
             r.pc = code::jump_to(code, regs.pc, 0);
             Ran {
                 regs: r,
-                next: Next::Goes,
+                goes: true,
+                stop: Stop::Broken,
             }
         }
         Seen::Fwd(_) => Ran {
             regs: regs,
-            next: Next::Ends(Stop::Broken),
+            goes: false,
+            stop: Stop::Broken,
         },
     }
 }
@@ -198,7 +206,8 @@ pub fn pop(s: &[u8], limit: usize, base: usize, code: &[u8], regs: Regs) -> Ran
     if regs.terms == 0 {
         return Ran {
             regs: regs,
-            next: Next::Ends(Stop::Broken),
+            goes: false,
+            stop: Stop::Broken,
         };
     }
     let k = store::get_rest(s, limit, base + 2696 + (regs.terms - 1));
@@ -211,7 +220,8 @@ pub fn pop(s: &[u8], limit: usize, base: usize, code: &[u8], regs: Regs) -> Ran
             vars: regs.vars,
             made: regs.made,
         },
-        next: Next::Goes,
+        goes: true,
+        stop: Stop::Broken,
     }
 }
 
@@ -224,20 +234,23 @@ pub fn replace(s: &[u8], limit: usize, base: usize, code: &[u8], regs: Regs) -> 
     if regs.top == 0 {
         return Ran {
             regs: regs,
-            next: Next::Ends(Stop::Broken),
+            goes: false,
+            stop: Stop::Broken,
         };
     }
     let cur = regs.cur;
     let Cur::Holds(h) = cur else {
         return Ran {
             regs: regs,
-            next: Next::Ends(Stop::Broken),
+            goes: false,
+            stop: Stop::Broken,
         };
     };
     let at = store::follow(s, limit, NodeNo(regs.top - 1));
     Ran {
         regs: regs,
-        next: Next::Ends(Stop::Becomes(at, h)),
+        goes: false,
+        stop: Stop::Becomes(at, h),
     }
 }
 
@@ -251,13 +264,15 @@ pub fn narrow(s: &[u8], limit: usize, base: usize, code: &[u8], regs: Regs) -> R
     let Cur::Holds(h) = cur else {
         return Ran {
             regs: regs,
-            next: Next::Ends(Stop::Broken),
+            goes: false,
+            stop: Stop::Broken,
         };
     };
     let at = store::follow(s, limit, h);
     Ran {
         regs: regs,
-        next: Next::Ends(Stop::Parts(at)),
+        goes: false,
+        stop: Stop::Parts(at),
     }
 }
 
@@ -270,12 +285,14 @@ pub fn choice(s: &[u8], limit: usize, base: usize, code: &[u8], regs: Regs) -> R
     if regs.top == 0 {
         return Ran {
             regs: regs,
-            next: Next::Ends(Stop::Broken),
+            goes: false,
+            stop: Stop::Broken,
         };
     }
     let at = store::follow(s, limit, NodeNo(regs.top - 1));
     Ran {
         regs: regs,
-        next: Next::Ends(Stop::Parts(at)),
+        goes: false,
+        stop: Stop::Parts(at),
     }
 }

@@ -31,8 +31,8 @@ returns-3 c = term-full _ _ _ _ _ (c .before .before .before .before .before .be
 top-terms-requires : tie.Need-top-terms-requires
 top-terms-requires c κs = search needs
 
-cast-t23 : tie.Need-cast-t23
-cast-t23 c = search needs
+cast-t20 : tie.Need-cast-t20
+cast-t20 c = search needs
 
 put-cell-requires : tie.Need-put-cell-requires
 put-cell-requires c κs = search needs
@@ -62,7 +62,7 @@ make-term-spec =
     same-length-3
     returns-3
     top-terms-requires
-    cast-t23
+    cast-t20
     put-cell-requires
     add-r
     push-term-requires

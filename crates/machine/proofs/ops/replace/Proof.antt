@@ -16,8 +16,8 @@ enum-told c = search needs
 returns-2 : tie.Need-returns-2
 returns-2 c = replace-lost _ _ _ _ _ (c .before .before .before .before .before .before .pre .1) (omega arith) (c .enum-told .given .1)
 
-sub-t14 : tie.Need-sub-t14
-sub-t14 c = search needs
+sub-t12 : tie.Need-sub-t12
+sub-t12 c = search needs
 
 follow-requires : tie.Need-follow-requires
 follow-requires c κs = search needs
@@ -28,4 +28,4 @@ returns-3 c = replace-is _ _ _ _ _ (c .before .before .before .before .before .b
 pub replace-spec : {M : Type 1} → statement M
 replace-spec =
     tie.close
-    (tie.spec returns enum-known-cur enum-told returns-2 sub-t14 follow-requires returns-3)
+    (tie.spec returns enum-known-cur enum-told returns-2 sub-t12 follow-requires returns-3)
