@@ -16,14 +16,14 @@ use Rattle.engine.specs.Machine as m
 use Rattle.book.specs.declared.FunNo.{FunNo}
 use Rattle.store.specs.declared.Seen.{Seen}
 use Rattle.machine.specs.Tables.{Has}
-use Rattle.machine.specs.View.{stackOf, preTerms, termsOf, freeVars, curOf, stateOf, stopOf, calledOf}
+use Rattle.machine.specs.View.{stackOf, preTerms, termsOf, freeVars, curIn, stateOf, stopOf, calledOf}
 use Rattle.machine.specs.Contract.{Low, Came, ByTables, execOn}
 use Rattle.machine.specs.Drive.{topStop, Topped}
 use Rattle.machine.proofs.Frames.{kept-same}
 use Rattle.machine.proofs.Stacks.{stack-cons, stack-nil}
 use Rattle.machine.specs.declared.Regs.{Regs}
 use Rattle.machine.specs.declared.Ended.{Ended}
-use Rattle.machine.specs.declared.Cur.the-variants.{Empty}
+use mathlib.Core.Bool.{false}
 use Rattle.machine.specs.declared.Called.{Called}
 use Rattle.machine.specs.declared.Called.the-variants.{Nothing, Fun}
 use Rattle.machine.specs.declared.Stop.the-variants.{Broken}
@@ -33,7 +33,7 @@ onTopOn p x N μ = m.onTop (λ (μ : Store). μ .nodes) take1 p x N μ
 
 -- the registers that a call's code starts with
 abbrev pub emptied : ℕ → ℕ → ℕ → Regs
-emptied pc t k = record { pc = pc; top = t; cur = Empty; terms = 0; vars = 0; made = k }
+emptied pc t k = record { pc = pc; top = t; holds = false; cur = record { 0 = 0 }; terms = 0; vars = 0; made = k }
 
 top-of : (p : Program) (N : List ℕ) (μ : Store) (t : ℕ) (N′ : List ℕ) → N ≡ t ∷ N′ → topStop p N μ ≡ onTopOn p (look (μ .nodes) t) N μ
 unfolding topStop
@@ -84,7 +84,7 @@ module _ (L base : ℕ) (code : List ℕ) (t k : ℕ) (s : List ℕ) where
     }
 
     pub topped-call : {s′ : List ℕ} {e : Ended} (f : FunNo) (pc : ℕ) → c ≡ Fun f → ByTables base (restOf L s) (λ p. pc ≡ getD (p .starts) (f .0) 0) → Came L base code (emptied pc t k) (length code) s s′ e → Topped L base code t k s s′ e
-    unfolding stateOf preTerms termsOf freeVars curOf storeOf m.onTop
+    unfolding stateOf preTerms termsOf freeVars curIn storeOf m.onTop
     topped-call f pc ef b C =
         let call : look (graphOf L s) (t - 1) ≡ cell (fun (f .0)) (args (look (graphOf L s) (t - 1))) = a-call (look (graphOf L s) (t - 1)) f (seen-top ∙ ef) in
         record {

@@ -51,7 +51,7 @@ module _ (L base : ℕ) (code : List ℕ) (r : Regs) (s : List ℕ) (fine : Fine
   step-past h = ended L base code r s fine Broken (λ p q u. sym (rw (drop-of-length-le code h)))
 
   pub step-is : {s′ : List ℕ} {a : Ran} (op : Op) (w : ℕ) → opOf code (r .pc) op ≡ c.decode (drop (r .pc) code) → w ≡ widthOf op
-      → Went L base code (record { pc = r .pc + w; top = r .top; cur = r .cur; terms = r .terms; vars = r .vars; made = r .made }) s s′ a (λ p. runOn p (opOf code (r .pc) op) (stateOf L base code (record { pc = r .pc + w; top = r .top; cur = r .cur; terms = r .terms; vars = r .vars; made = r .made }) s))
+      → Went L base code (record { pc = r .pc + w; top = r .top; holds = r .holds; cur = r .cur; terms = r .terms; vars = r .vars; made = r .made }) s s′ a (λ p. runOn p (opOf code (r .pc) op) (stateOf L base code (record { pc = r .pc + w; top = r .top; holds = r .holds; cur = r .cur; terms = r .terms; vars = r .vars; made = r .made }) s))
       → Went L base code r s s′ a (λ p. stepOn p (stateOf L base code r s))
   unfolding stateOf m.step
   step-is op w e ew W =

@@ -15,9 +15,8 @@ use Rattle.store.specs.Regions.{graphOf, linksOf, restOf, storeOf, Memory, Did,
 use Rattle.store.proofs.Writes.{make-is, make-none, length-rest}
 use Rattle.engine.specs.Code as c
 use Rattle.engine.specs.Machine as m
-use Rattle.store.specs.declared.NodeNo.{NodeNo}
 use Rattle.machine.specs.Tables.{Space, varsAt, termsAt, termBound}
-use Rattle.machine.specs.View.{stackOf, preTerms, freeVars, curOf, stateOf, stopOf, ranOf}
+use Rattle.machine.specs.View.{stackOf, preTerms, freeVars, curIn, stateOf, stopOf, ranOf}
 use Rattle.machine.specs.Contract.{runOn, pushed, Fine, Frame, Roomy, Went, ByTables}
 use Rattle.machine.proofs.Walking.{elem-some, elem-none}
 use Rattle.machine.proofs.Registers.{length-terms, terms-push, terms-drop, put-next, put-there}
@@ -25,7 +24,6 @@ use Rattle.machine.proofs.Frames.{frame-same, kept-node, kept-rest, kep
 use Rattle.machine.proofs.Runs.{ended, state-is}
 use Rattle.machine.specs.declared.Regs.{Regs}
 use Rattle.machine.specs.declared.Ran.{Ran}
-use Rattle.machine.specs.declared.Cur.the-variants.{Empty, Holds}
 use Rattle.machine.specs.declared.Stop.the-variants.{Broken, Full}
 use mathlib.Core.Bool.{true, false}
 
@@ -43,7 +41,7 @@ module _ (L base : ℕ) (code : List ℕ) (r : Regs) (s : List ℕ) (fine : Fine
   push-full h = record { is = λ p q u room. absurd (omega (arith, length-pre L base s (r .terms))); frame = frame-same fine }
 
   pub push-goes : {s′ : List ℕ} → Space L base s → r .terms < termBound → Did L s s′ (setRest (base + termsAt + r .terms) v)
-      → Went L base code r s s′ (record { regs = record { pc = r .pc; top = r .top; cur = r .cur; terms = r .terms + 1; vars = r .vars; made = r .made }; goes = true; stop = Broken }) (λ p. pushed v (stateOf L base code r s))
+      → Went L base code r s s′ (record { regs = record { pc = r .pc; top = r .top; holds = r .holds; cur = r .cur; terms = r .terms + 1; vars = r .vars; made = r .made }; goes = true; stop = Broken }) (λ p. pushed v (stateOf L base code r s))
   unfolding pushed ranOf stateOf stackOf preTerms freeVars storeOf
   push-goes {s′} sp lt d =
       let links : linksOf L s′ ≡ linksOf L s = ap (λ (m : Memory). m .links) (d .is) in
@@ -61,13 +59,13 @@ module _ (L base : ℕ) (code : List ℕ) (r : Regs) (s : List ℕ) (fine : Fine
 
 -- PUSH and MAKEVAR
 module _ (L base : ℕ) (code : List ℕ) (r : Regs) (s : List ℕ) (fine : Fine r) where
-  pub push-lost : r .cur ≡ Empty → Went L base code r s s (record { regs = r; goes = false; stop = Broken }) (λ p. runOn p c.push (stateOf L base code r s))
-  unfolding stopOf stateOf curOf m.run m.need
+  pub push-lost : r .holds ≡ false → Went L base code r s s (record { regs = r; goes = false; stop = Broken }) (λ p. runOn p c.push (stateOf L base code r s))
+  unfolding stopOf stateOf curIn m.run m.need
   push-lost e = ended L base code r s fine Broken (λ p h u. sym (rw e))
 
-  pub push-is : {s′ : List ℕ} {a : Ran} (n : NodeNo) → r .cur ≡ Holds n → Went L base code r s s′ a (λ p. pushed (n .0) (stateOf L base code r s)) → Went L base code r s s′ a (λ p. runOn p c.push (stateOf L base code r s))
-  unfolding stateOf pushed curOf m.run m.need
-  push-is n e w = went-as (λ p h u. rw e) w
+  pub push-is : {s′ : List ℕ} {a : Ran} → r .holds ≡ true → Went L base code r s s′ a (λ p. pushed (r .cur .0) (stateOf L base code r s)) → Went L base code r s s′ a (λ p. runOn p c.push (stateOf L base code r s))
+  unfolding stateOf pushed curIn m.run m.need
+  push-is e w = went-as (λ p h u. rw e) w
 
   pub var-lost : (v : ℕ) → r .vars ≤ v → Went L base code r s s (record { regs = r; goes = false; stop = Broken }) (λ p. runOn p (c.makeVar v) (stateOf L base code r s))
   unfolding stopOf stateOf freeVars m.run m.need
@@ -90,12 +88,12 @@ module _ (L base : ℕ) (code : List ℕ) (r : Regs) (s : List ℕ) (fine : Fine
 
   -- the registers with one more node, and fewer terms
   abbrev pub more : ℕ → Regs
-  more k = record { pc = r .pc; top = r .top; cur = r .cur; terms = k; vars = r .vars; made = r .made + 1 }
+  more k = record { pc = r .pc; top = r .top; holds = r .holds; cur = r .cur; terms = k; vars = r .vars; made = r .made + 1 }
 
   pub made-frame : {s′ : List ℕ} {x : Node} (k : ℕ) → k ≤ termBound → Did L s s′ (setNode (r .made) x) → Frame L base s s′ r (more k)
   made-frame k h d = record { kept = kept-node d (omega arith); links = ap (λ (m : Memory). m .links) (d .is); top = refl; made = omega arith; fine = (h, fine .1) }
 
-  made-state : {s′ : List ℕ} {x : Node} (k : ℕ) → Did L s s′ (setNode (r .made) x) → stateOf L base code (more k) s′ ≡ m.st (drop (r .pc) code) (stackOf L s (r .top)) (curOf (r .cur)) (preTerms L base s k) (freeVars L base s (r .vars)) (storeOf L (r .made + 1) s′)
+  made-state : {s′ : List ℕ} {x : Node} (k : ℕ) → Did L s s′ (setNode (r .made) x) → stateOf L base code (more k) s′ ≡ m.st (drop (r .pc) code) (stackOf L s (r .top)) (curIn (r .holds) (r .cur .0)) (preTerms L base s k) (freeVars L base s (r .vars)) (storeOf L (r .made + 1) s′)
   unfolding stateOf stackOf preTerms freeVars
   made-state {s′} k d =
       let links : linksOf L s′ ≡ linksOf L s = ap (λ (m : Memory). m .links) (d .is) in
@@ -144,7 +142,7 @@ module _ (L base : ℕ) (code : List ℕ) (r : Regs) (s : List ℕ) (fine : Fine
 
     pub store-is : {s′ s″ : List ℕ} (k : ℕ) → v ≤ r .vars → v < 256 → Space L base s → r .made < L → Did L s s′ (setNode (r .made) var) → Did L s′ s″ (setRest (base + varsAt + v) (r .made))
         → ((w : List ℕ) → 576 ≤ length w → take k (set w v (r .made)) ≡ m.put (take (r .vars) w) v (r .made)) → k ≤ 256
-        → Went L base code r s s″ (record { regs = record { pc = r .pc; top = r .top; cur = r .cur; terms = r .terms; vars = k; made = r .made + 1 }; goes = true; stop = Broken }) (λ p. runOn p (c.storeVar v) (stateOf L base code r s))
+        → Went L base code r s s″ (record { regs = record { pc = r .pc; top = r .top; holds = r .holds; cur = r .cur; terms = r .terms; vars = k; made = r .made + 1 }; goes = true; stop = Broken }) (λ p. runOn p (c.storeVar v) (stateOf L base code r s))
     unfolding ranOf stateOf stackOf preTerms freeVars storeOf m.run m.when m.made
     store-is {s′} {s″} k h small sp f d e reg few =
         let long : length (take (r .vars) (drop (base + varsAt) (restOf L s))) ≡ r .vars = length-take-le (r .vars) (drop (base + varsAt) (restOf L s)) (omega (arith, length-part L base varsAt s (sp .2) (omega arith))) in

@@ -21,7 +21,7 @@ use Rattle.store.specs.declared.NodeNo.{NodeNo}
 use Rattle.store.specs.declared.Seen.{Seen}
 use Rattle.store.specs.declared.Seen.the-variants.{Var, Con, Call, Fwd}
 use Rattle.machine.specs.Tables.{Has, termsAt}
-use Rattle.machine.specs.View.{stackOf, preTerms, freeVars, curOf, stateOf, stopOf, ranOf, armIs}
+use Rattle.machine.specs.View.{stackOf, preTerms, freeVars, curIn, curOf, stateOf, stopOf, ranOf, armIs}
 use Rattle.machine.specs.Contract.{runOn, Fine, Went, ByTables}
 use Rattle.machine.proofs.Walking.{elem-none}
 use Rattle.machine.proofs.Registers.{length-terms, terms-drop, terms-first, top-none, top-some}
@@ -55,8 +55,8 @@ module _ (L base : ℕ) (code : List ℕ) (r : Regs) (s : List ℕ) (fine : Fine
   load-lost q k t e z = let e′ : m.at (graphOf L s) (r .top - 1) q ≡ none = sym e ∙ ap curOf z in ended Broken (λ p h u. sym (rw (top-some L s (r .top) t, e′)))
 
   pub load-found : (q : List ℕ) (k : Cur) (n : NodeNo) → 0 < r .top → curOf k ≡ m.at (graphOf L s) (r .top - 1) q → k ≡ Holds n
-      → Went L base code r s s (record { regs = record { pc = r .pc; top = r .top; cur = Holds n; terms = r .terms; vars = r .vars; made = r .made }; goes = true; stop = Broken }) (λ p. runOn p (c.load q) (stateOf L base code r s))
-  unfolding ranOf stateOf storeOf curOf m.run m.need
+      → Went L base code r s s (record { regs = record { pc = r .pc; top = r .top; holds = true; cur = n; terms = r .terms; vars = r .vars; made = r .made }; goes = true; stop = Broken }) (λ p. runOn p (c.load q) (stateOf L base code r s))
+  unfolding ranOf stateOf storeOf curIn curOf m.run m.need
   load-found q k n t e z =
       let e′ : m.at (graphOf L s) (r .top - 1) q ≡ some (n .0) = sym e ∙ ap curOf z in
       record { is = λ p h u room. sym (rw (top-some L s (r .top) t, e′)); frame = frame-regs refl (omega arith) fine }
@@ -66,21 +66,21 @@ module _ (L base : ℕ) (code : List ℕ) (r : Regs) (s : List ℕ) (fine : Fine
   unfolding stopOf stateOf m.run m.need
   replace-empty e = ended Broken (λ p h u. sym (rw (top-none L s (r .top) e)))
 
-  pub replace-lost : 0 < r .top → r .cur ≡ Empty → Went L base code r s s (record { regs = r; goes = false; stop = Broken }) (λ p. runOn p c.replace (stateOf L base code r s))
-  unfolding stopOf stateOf curOf m.run m.need
+  pub replace-lost : 0 < r .top → r .holds ≡ false → Went L base code r s s (record { regs = r; goes = false; stop = Broken }) (λ p. runOn p c.replace (stateOf L base code r s))
+  unfolding stopOf stateOf curIn m.run m.need
   replace-lost t e = ended Broken (λ p h u. sym (rw (top-some L s (r .top) t, e)))
 
-  pub replace-is : (a n : NodeNo) → 0 < r .top → r .cur ≡ Holds n → a .0 ≡ follow (graphOf L s) (r .top - 1) → Went L base code r s s (record { regs = r; goes = false; stop = Becomes a n }) (λ p. runOn p c.replace (stateOf L base code r s))
-  unfolding stopOf stateOf storeOf curOf m.run m.need
-  replace-is a n t e ea = ended (Becomes a n) (λ p h u. sym (rw (top-some L s (r .top) t, e, ← ea)))
+  pub replace-is : (a : NodeNo) → 0 < r .top → r .holds ≡ true → a .0 ≡ follow (graphOf L s) (r .top - 1) → Went L base code r s s (record { regs = r; goes = false; stop = Becomes a (r .cur) }) (λ p. runOn p c.replace (stateOf L base code r s))
+  unfolding stopOf stateOf storeOf curIn m.run m.need
+  replace-is a t e ea = ended (Becomes a (r .cur)) (λ p h u. sym (rw (top-some L s (r .top) t, e, ← ea)))
 
-  pub narrow-lost : r .cur ≡ Empty → Went L base code r s s (record { regs = r; goes = false; stop = Broken }) (λ p. runOn p c.narrow (stateOf L base code r s))
-  unfolding stopOf stateOf curOf m.run m.need
+  pub narrow-lost : r .holds ≡ false → Went L base code r s s (record { regs = r; goes = false; stop = Broken }) (λ p. runOn p c.narrow (stateOf L base code r s))
+  unfolding stopOf stateOf curIn m.run m.need
   narrow-lost e = ended Broken (λ p h u. sym (rw e))
 
-  pub narrow-is : (a n : NodeNo) → r .cur ≡ Holds n → a .0 ≡ follow (graphOf L s) (n .0) → Went L base code r s s (record { regs = r; goes = false; stop = Parts a }) (λ p. runOn p c.narrow (stateOf L base code r s))
-  unfolding stopOf stateOf storeOf curOf m.run m.need
-  narrow-is a n e ea = ended (Parts a) (λ p h u. sym (rw (e, ← ea)))
+  pub narrow-is : (a : NodeNo) → r .holds ≡ true → a .0 ≡ follow (graphOf L s) (r .cur .0) → Went L base code r s s (record { regs = r; goes = false; stop = Parts a }) (λ p. runOn p c.narrow (stateOf L base code r s))
+  unfolding stopOf stateOf storeOf curIn m.run m.need
+  narrow-is a e ea = ended (Parts a) (λ p h u. sym (rw (e, ← ea)))
 
   pub choice-empty : r .top ≡ 0 → Went L base code r s s (record { regs = r; goes = false; stop = Broken }) (λ p. runOn p c.choice (stateOf L base code r s))
   unfolding stopOf stateOf m.run m.need
@@ -109,22 +109,22 @@ module _ (L base : ℕ) (code : List ℕ) (r : Regs) (s : List ℕ) (fine : Fine
   pop-empty e = ended Broken (λ p h u. sym (rw (elem-none (preTerms L base s (r .terms)) 0 (rw (length-terms (r .terms) (drop (base + termsAt) (restOf L s))) (omega arith)))))
 
   pub pop-is : (n : NodeNo) → 0 < r .terms → n .0 ≡ getD (restOf L s) (base + termsAt + (r .terms - 1)) 0
-      → Went L base code r s s (record { regs = record { pc = r .pc; top = r .top; cur = Holds n; terms = r .terms - 1; vars = r .vars; made = r .made }; goes = true; stop = Broken }) (λ p. runOn p c.pop (stateOf L base code r s))
-  unfolding ranOf stateOf preTerms curOf m.run m.need
+      → Went L base code r s s (record { regs = record { pc = r .pc; top = r .top; holds = true; cur = n; terms = r .terms - 1; vars = r .vars; made = r .made }; goes = true; stop = Broken }) (λ p. runOn p c.pop (stateOf L base code r s))
+  unfolding ranOf stateOf preTerms curIn m.run m.need
   pop-is n t e =
       let first : getElem? (preTerms L base s (r .terms)) 0 ≡ some (n .0) = terms-first (r .terms) (drop (base + termsAt) (restOf L s)) t ∙ ap some (getD-drop (base + termsAt) (restOf L s) (r .terms - 1) 0 ∙ sym e) in
       let rest : drop 1 (preTerms L base s (r .terms)) ≡ preTerms L base s (r .terms - 1) = terms-drop 1 (r .terms) (drop (base + termsAt) (restOf L s)) (omega arith) in
       record { is = λ p h u room. sym (rw (first, rest)); frame = frame-regs refl (omega arith) (omega arith, fine .1) }
 
   -- BRANCH
-  pub branch-lost : (t : ℕ) → r .cur ≡ Empty → Went L base code r s s (record { regs = r; goes = false; stop = Broken }) (λ p. runOn p (c.branch t) (stateOf L base code r s))
-  unfolding stopOf stateOf curOf m.run m.need
+  pub branch-lost : (t : ℕ) → r .holds ≡ false → Went L base code r s s (record { regs = r; goes = false; stop = Broken }) (λ p. runOn p (c.branch t) (stateOf L base code r s))
+  unfolding stopOf stateOf curIn m.run m.need
   branch-lost t e = ended Broken (λ p h u. sym (rw e))
 
-  module _ (t : ℕ) (n a : NodeNo) (k : Seen) (e : r .cur ≡ Holds n) (ea : a .0 ≡ follow (graphOf L s) (n .0)) (ek : k ≡ seen (node (graphOf L s) (a .0))) where
-    here : (x : Node) → node (graphOf L s) (a .0) ≡ x → (p : Program) → runOn p (c.branch t) (stateOf L base code r s) ≡ m.onBranch (λ (μ : Store). μ .nodes) take1 p t (n .0) x (stateOf L base code r s)
-    unfolding stateOf storeOf curOf m.run m.need look
-    here x ex p = let f : node (graphOf L s) (follow (graphOf L s) (n .0)) ≡ x = ap (node (graphOf L s)) (sym ea) ∙ ex in rw e (rw f)
+  module _ (t : ℕ) (a : NodeNo) (k : Seen) (e : r .holds ≡ true) (ea : a .0 ≡ follow (graphOf L s) (r .cur .0)) (ek : k ≡ seen (node (graphOf L s) (a .0))) where
+    here : (x : Node) → node (graphOf L s) (a .0) ≡ x → (p : Program) → runOn p (c.branch t) (stateOf L base code r s) ≡ m.onBranch (λ (μ : Store). μ .nodes) take1 p t (r .cur .0) x (stateOf L base code r s)
+    unfolding stateOf storeOf curIn m.run m.need look
+    here x ex p = let f : node (graphOf L s) (follow (graphOf L s) (r .cur .0)) ≡ x = ap (node (graphOf L s)) (sym ea) ∙ ex in rw e (rw f)
 
     pub branch-call : (y : FunNo) (z : ℕ) → k ≡ Call y z → Went L base code r s s (record { regs = r; goes = false; stop = Demand a }) (λ p. runOn p (c.branch t) (stateOf L base code r s))
     unfolding stopOf stateOf storeOf m.onBranch
@@ -135,12 +135,12 @@ module _ (L base : ℕ) (code : List ℕ) (r : Regs) (s : List ℕ) (fine : Fine
     branch-fwd y e′ = ended Broken (λ p h u. sym (here _ (seen-fwd (node (graphOf L s) (a .0)) y (sym e′ ∙ ek)) p))
 
     pub branch-var : (j : ℕ) → k ≡ Var → j ≡ c.fromFour (drop (5 * 0 + 1) (drop (r .pc) code))
-        → Went L base code r s s (record { regs = record { pc = j; top = r .top; cur = r .cur; terms = r .terms; vars = r .vars; made = r .made }; goes = true; stop = Broken }) (λ p. runOn p (c.branch t) (stateOf L base code r s))
+        → Went L base code r s s (record { regs = record { pc = j; top = r .top; holds = r .holds; cur = r .cur; terms = r .terms; vars = r .vars; made = r .made }; goes = true; stop = Broken }) (λ p. runOn p (c.branch t) (stateOf L base code r s))
     unfolding ranOf stateOf m.onBranch m.jump
     branch-var j e′ ej = record { is = λ p h u room. sym (here _ (seen-var (node (graphOf L s) (a .0)) (sym e′ ∙ ek)) p ∙ rw (← ej, u)); frame = frame-regs refl (omega arith) fine }
 
     arm : (p : Program) (y : ConNo) (z : ℕ) (o : Option ℕ) → k ≡ Con y z → m.armOf p t (y .0) ≡ o
-        → runOn p (c.branch t) (stateOf L base code r s) ≡ elim o [ some j ↦ m.on (m.st (m.jump p (drop (r .pc) code) (suc j)) (stackOf L s (r .top)) (curOf (r .cur)) (preTerms L base s (r .terms)) (freeVars L base s (r .vars)) (storeOf L (r .made) s)) | none ↦ m.ends (m.misfits (storeOf L (r .made) s)) ]
+        → runOn p (c.branch t) (stateOf L base code r s) ≡ elim o [ some j ↦ m.on (m.st (m.jump p (drop (r .pc) code) (suc j)) (stackOf L s (r .top)) (curIn (r .holds) (r .cur .0)) (preTerms L base s (r .terms)) (freeVars L base s (r .vars)) (storeOf L (r .made) s)) | none ↦ m.ends (m.misfits (storeOf L (r .made) s)) ]
     unfolding stateOf m.onBranch
     arm p y z none e′ eo = here _ (seen-con (node (graphOf L s) (a .0)) y z (sym e′ ∙ ek) .0) p ∙ rw (eo, m.onBranch)
     arm p y z (some j) e′ eo = here _ (seen-con (node (graphOf L s) (a .0)) y z (sym e′ ∙ ek) .0) p ∙ rw (eo, m.onBranch)
@@ -151,7 +151,7 @@ module _ (L base : ℕ) (code : List ℕ) (r : Regs) (s : List ℕ) (fine : Fine
     branch-misfit y z w e′ b ew = ended Misfits (λ p h u. sym (arm p y z none e′ (sym (b p h) ∙ ap armIs ew)))
 
     pub branch-con : (y : ConNo) (z : ℕ) (w : Arm) (i j : ℕ) → k ≡ Con y z → ByTables base (restOf L s) (λ p. armIs w ≡ m.armOf p t (y .0)) → w ≡ Of i → j ≡ c.fromFour (drop (5 * (i + 1) + 1) (drop (r .pc) code))
-        → Went L base code r s s (record { regs = record { pc = j; top = r .top; cur = r .cur; terms = r .terms; vars = r .vars; made = r .made }; goes = true; stop = Broken }) (λ p. runOn p (c.branch t) (stateOf L base code r s))
+        → Went L base code r s s (record { regs = record { pc = j; top = r .top; holds = r .holds; cur = r .cur; terms = r .terms; vars = r .vars; made = r .made }; goes = true; stop = Broken }) (λ p. runOn p (c.branch t) (stateOf L base code r s))
     unfolding ranOf stateOf armIs m.jump
     branch-con y z w i j e′ b ew ej =
         let one : i + 1 ≡ suc i = omega arith in

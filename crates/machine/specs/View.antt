@@ -53,7 +53,12 @@ preTerms L base s k = termsOf k (drop (base + termsAt) (restOf L s))
 unfoldable pub freeVars : ℕ → ℕ → List ℕ → ℕ → List ℕ
 freeVars L base s k = take k (drop (base + varsAt) (restOf L s))
 
--- the current register
+-- the current register: whether it holds a node, and which
+unfoldable pub curIn : Bool → ℕ → Option ℕ
+curIn true n = some n
+curIn false n = none
+
+-- a node, if there is one
 unfoldable pub curOf : Cur → Option ℕ
 curOf Empty = none
 curOf (Holds n) = some (n .0)
@@ -64,7 +69,7 @@ childOf g h p = getElem? (args (look g h)) (p - 1)
 
 -- the machine's state
 unfoldable pub stateOf : ℕ → ℕ → List ℕ → Regs → List ℕ → m.State Store
-stateOf L base code r s = m.st (drop (r .pc) code) (stackOf L s (r .top)) (curOf (r .cur)) (preTerms L base s (r .terms)) (freeVars L base s (r .vars)) (storeOf L (r .made) s)
+stateOf L base code r s = m.st (drop (r .pc) code) (stackOf L s (r .top)) (curIn (r .holds) (r .cur .0)) (preTerms L base s (r .terms)) (freeVars L base s (r .vars)) (storeOf L (r .made) s)
 
 -- the instruction that an operation at place `at` of the code is
 unfoldable pub opOf : List ℕ → ℕ → Op → c.Instr

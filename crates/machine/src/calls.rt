@@ -38,7 +38,8 @@ pub fn on_top(s: &mut [u8], limit: usize, base: usize, code: &[u8], top: u16, ma
     let mut r = Regs {
         pc: 0,
         top: top,
-        cur: Cur::Empty,
+        holds: false,
+        cur: NodeNo(0),
         terms: 0,
         vars: 0,
         made: made,

@@ -1,5 +1,4 @@
 // The instructions that write: PUSH, MAKEANON, STOREVAR, MAKEVAR, MAKETERM. Each is one equation, as in ops.
-use crate::Cur;
 use crate::Ran;
 use crate::Regs;
 use crate::Stop;
@@ -44,14 +43,14 @@ pub fn push(s: &mut [u8], limit: usize, base: usize, code: &[u8], regs: Regs) ->
     requires { ⌜ Fine regs ⌝ }
     ensures { λ r. ⌜ Went limit base (now (code .entry)) regs (now (s .entry)) (now (s .exit)) r (λ p. runOn p c.push (stateOf limit base (now (code .entry)) regs (now (s .entry)))) ⌝ }
 {
-    let cur = regs.cur;
-    let Cur::Holds(h) = cur else {
+    if !regs.holds {
         return Ran {
             regs: regs,
             goes: false,
             stop: Stop::Broken,
         };
-    };
+    }
+    let h = regs.cur;
     push_term(s, limit, base, code, regs, h)
 }
 

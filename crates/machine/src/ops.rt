@@ -127,7 +127,8 @@ pub fn load(
         regs: Regs {
             pc: regs.pc,
             top: regs.top,
-            cur: Cur::Holds(h),
+            holds: true,
+            cur: h,
             terms: regs.terms,
             vars: regs.vars,
             made: regs.made,
@@ -145,14 +146,14 @@ pub fn branch(s: &[u8], limit: usize, base: usize, code: &[u8], regs: Regs, t: u
     requires { ⌜ regs .pc ≤ codeBound + 16 ⌝ }
     ensures { λ r. ⌜ Went limit base (now (code .entry)) regs (now (s .entry)) (now (s .entry)) r (λ p. runOn p (c.branch t) (stateOf limit base (now (code .entry)) regs (now (s .entry)))) ⌝ }
 {
-    let cur = regs.cur;
-    let Cur::Holds(h) = cur else {
+    if !regs.holds {
         return Ran {
             regs: regs,
             goes: false,
             stop: Stop::Broken,
         };
-    };
+    }
+    let h = regs.cur;
     let at = store::follow(s, limit, h);
     let k = node_at(s, limit, at);
     match k {
@@ -215,7 +216,8 @@ pub fn pop(s: &[u8], limit: usize, base: usize, code: &[u8], regs: Regs) -> Ran
         regs: Regs {
             pc: regs.pc,
             top: regs.top,
-            cur: Cur::Holds(NodeNo(k)),
+            holds: true,
+            cur: NodeNo(k),
             terms: regs.terms - 1,
             vars: regs.vars,
             made: regs.made,
@@ -238,14 +240,14 @@ pub fn replace(s: &[u8], limit: usize, base: usize, code: &[u8], regs: Regs) -> 
             stop: Stop::Broken,
         };
     }
-    let cur = regs.cur;
-    let Cur::Holds(h) = cur else {
+    if !regs.holds {
         return Ran {
             regs: regs,
             goes: false,
             stop: Stop::Broken,
         };
-    };
+    }
+    let h = regs.cur;
     let at = store::follow(s, limit, NodeNo(regs.top - 1));
     Ran {
         regs: regs,
@@ -260,14 +262,14 @@ pub fn narrow(s: &[u8], limit: usize, base: usize, code: &[u8], regs: Regs) -> R
     requires { ⌜ Fine regs ⌝ }
     ensures { λ r. ⌜ Went limit base (now (code .entry)) regs (now (s .entry)) (now (s .entry)) r (λ p. runOn p c.narrow (stateOf limit base (now (code .entry)) regs (now (s .entry)))) ⌝ }
 {
-    let cur = regs.cur;
-    let Cur::Holds(h) = cur else {
+    if !regs.holds {
         return Ran {
             regs: regs,
             goes: false,
             stop: Stop::Broken,
         };
-    };
+    }
+    let h = regs.cur;
     let at = store::follow(s, limit, h);
     Ran {
         regs: regs,
