@@ -66,9 +66,9 @@ look-kind (suc zero) y hs t = refl
 look-kind (suc (suc zero)) y hs t = refl
 look-kind (suc (suc (suc k))) y hs t = refl
 
-pub look-words : (L i h z : ℕ) (s : List ℕ) → i < L → 16 * L ≤ length (words s) → h ≡ getD (words s) (10 * i) 0 → z ≡ getD (words s) (10 * i + 1) 0
-    → seen (node (graphOf L s) i) ≡ seenOf (h / 256) (h % 256) (z % 9) (getD (words s) (10 * i + 2) 0)
-look-words L i h z s lt room e1 e2 = rw (node-words L i s lt, look-kind, length-args L i s lt room, e1, e2)
+pub look-words : (L i h : ℕ) (s : List ℕ) → i < L → 16 * L ≤ length (words s) → h ≡ getD (words s) (10 * i) 0
+    → seen (node (graphOf L s) i) ≡ seenOf (h / 256) (h % 256) (getD (words s) (10 * i + 1) 0 % 9) (getD (words s) (10 * i + 2) 0)
+look-words L i h s lt room e = rw (node-words L i s lt, look-kind, length-args L i s lt room, e)
 
 pub seen-rest : (k y z t : ℕ) → (k ≡ 0 → ⊥) → (k ≡ 1 → ⊥) → (k ≡ 2 → ⊥) → seenOf k y z t ≡ Fwd (record { 0 = t })
 unfolding seenOf

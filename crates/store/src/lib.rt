@@ -2,7 +2,7 @@
 use book::ConNo;
 use book::FunNo;
 ghost use mathlib.Core.Path.{_≡_};
-ghost use Prim.Native.Nat.{ℕ, _+_, _*_, _<_, _≤_};
+ghost use Prim.Native.Nat.{ℕ, _+_, _*_, _%_, _<_, _≤_};
 ghost use lib.ListN.{length, getD, take};
 ghost use Rattle.mem.specs.Words.{words};
 ghost use Rattle.heap.specs.Graph as g;
@@ -31,6 +31,16 @@ pub struct Top {
     pub next: u16,
 }
 
+// A cell's count by its word. The words that are written are below 9, so a remainder is not taken there.
+fn count_of(word: u16) -> u16
+    ensures { λ r. ⌜ r ≡ word % 9 ⌝ }
+{
+    if word < 9 {
+        return word;
+    }
+    word % 9
+}
+
 // What stands at a node.
 pub fn look(s: &[u8], limit: usize, n: NodeNo) -> Seen
     requires { ⌜ Room limit (now s) ⌝ }
@@ -39,12 +49,11 @@ pub fn look(s: &[u8], limit: usize, n: NodeNo) -> Seen
 {
     let at = 10 * (n.0 as usize);
     let head = mem::get(s, at);
-    let count = mem::get(s, at + 1) % 9;
     let kind = head / 256;
     match kind {
         0 => Seen::Var,
-        1 => Seen::Con(ConNo((head % 256) as u8), count),
-        2 => Seen::Call(FunNo((head % 256) as u8), count),
+        1 => Seen::Con(ConNo((head % 256) as u8), count_of(mem::get(s, at + 1))),
+        2 => Seen::Call(FunNo((head % 256) as u8), count_of(mem::get(s, at + 1))),
         _ => Seen::Fwd(NodeNo(mem::get(s, at + 2))),
     }
 }
