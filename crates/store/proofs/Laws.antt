@@ -36,7 +36,7 @@ row i s = take 10 (drop (10 * i) (words s))
 row-word : (i f : ℕ) (s : List ℕ) → f < 10 → getD (row i s) f 0 ≡ getD (words s) (10 * i + f) 0
 row-word i f s h = rw (getD-take {A = ℕ} 10 (drop (10 * i) (words s)) f 0 h, getD-drop)
 
-node-row : (L i : ℕ) (s : List ℕ) → i < L → node (graphOf L s) i ≡ nodeOf (row i s)
+pub node-row : (L i : ℕ) (s : List ℕ) → i < L → node (graphOf L s) i ≡ nodeOf (row i s)
 unfolding graphOf nodeOf ofKind
 node-row L i s h = List·getD-map nodeOf (rows 10 L (words s)) i [] ∙ ap nodeOf (row-get 10 L i (words s) h)
 
@@ -138,7 +138,7 @@ unfolding follow
 follow-is L s h = rw (length-graph L s)
 
 -- an argument is a word of the row
-args-kind : (k y : ℕ) (hs : List ℕ) (t j : ℕ) → j < length (args (ofKind k y hs t)) → (args (ofKind k y hs t) ≡ hs) × (j < length hs)
+pub args-kind : (k y : ℕ) (hs : List ℕ) (t j : ℕ) → j < length (args (ofKind k y hs t)) → (args (ofKind k y hs t) ≡ hs) × (j < length hs)
 unfolding args ofKind
 args-kind zero y hs t j h = absurd (omega arith)
 args-kind (suc zero) y hs t j h = (refl, h)

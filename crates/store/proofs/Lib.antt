@@ -1,2 +1,3 @@
 pub mod Laws
 pub mod Writes
+pub mod Laying

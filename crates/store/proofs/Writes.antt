@@ -119,10 +119,10 @@ did-frame L d n v s s′ s″ h w w′ =
     did-then (frame-word L s s′ (2 * d) n (omega arith) w) (did-next L d v s′ s″ h w′)
 
 -- row i of the words, and a write in it
-row-write : (i f v : ℕ) (l : List ℕ) → f < 10 → take 10 (drop (10 * i) (set l (10 * i + f) v)) ≡ set (take 10 (drop (10 * i) l)) f v
+pub row-write : (i f v : ℕ) (l : List ℕ) → f < 10 → take 10 (drop (10 * i) (set l (10 * i + f) v)) ≡ set (take 10 (drop (10 * i) l)) f v
 row-write i f v l h = rw (drop-set-add, take-set-lt 10 (drop (10 * i) l) f v h)
 
-length-row : (L i : ℕ) (l : List ℕ) → i < L → 16 * L ≤ length l → length (take 10 (drop (10 * i) l)) ≡ 10
+pub length-row : (L i : ℕ) (l : List ℕ) → i < L → 16 * L ≤ length l → length (take 10 (drop (10 * i) l)) ≡ 10
 length-row L i l h room = simp (length-take, length-drop) (omega arith)
 
 var-row : (r : List ℕ) → 1 ≤ length r → nodeOf (set r 0 0) ≡ var

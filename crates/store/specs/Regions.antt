@@ -44,6 +44,10 @@ AllRoom L P s = (L ≤ nodeBound) × (P ≤ poolBound) × (16 * L + 20 * P + tab
 unfoldable pub graphOf : ℕ → List ℕ → Graph
 graphOf L s = map nodeOf (rows 10 L (words s))
 
+-- the argument words of node n's row, whatever the node is
+unfoldable pub argWords : ℕ → List ℕ → List ℕ
+argWords n s = take 8 (drop (10 * n + 2) (words s))
+
 unfoldable pub marksOf : ℕ → List ℕ → List ℕ
 marksOf L s = take L (drop (10 * L) (words s))
 

@@ -6,8 +6,8 @@ ghost use Prim.Native.Nat.{ℕ, _+_, _*_, _%_, _<_, _≤_};
 ghost use lib.ListN.{length, getD, take};
 ghost use Rattle.mem.specs.Words.{words};
 ghost use Rattle.heap.specs.Graph as g;
-ghost use Rattle.store.specs.Rows.{seen, symbolOf, HeadIs, filled};
-ghost use Rattle.store.specs.Regions.{nodeBound, Room, graphOf, marksOf, linksOf, listOf, placesOf, framesOf, restOf, Did, setNode, setMark, setLink, setList, setPlace, setNext, setFrame, setRest};
+ghost use Rattle.store.specs.Rows.{seen, symbolOf, HeadIs, withArg, filled};
+ghost use Rattle.store.specs.Regions.{nodeBound, Room, graphOf, argWords, marksOf, linksOf, listOf, placesOf, framesOf, restOf, Did, setNode, setMark, setLink, setList, setPlace, setNext, setFrame, setRest};
 
 pub struct NodeNo(pub u16);
 
@@ -144,6 +144,29 @@ pub fn put_cell(s: &mut [u8], limit: usize, n: NodeNo, head: Head, args: [u16; 8
     mem::put(s, at, h);
     mem::put(s, at + 1, count);
     put_args(s, at + 2, args, count);
+}
+
+// Node n becomes a cell with `count` arguments, which are whatever their words hold: put_arg writes them.
+pub fn put_head(s: &mut [u8], limit: usize, n: NodeNo, head: Head, count: u16)
+    requires { ⌜ Room limit (now s) ⌝ }
+    requires { ⌜ n .0 < limit ⌝ }
+    requires { ⌜ count ≤ 8 ⌝ }
+    ensures { λ _. ⌜ Did limit (now (s .entry)) (now (s .exit)) (setNode (n .0) (g.cell (symbolOf head) (take count (argWords (n .0) (now (s .entry)))))) ⌝ }
+{
+    let at = 10 * (n.0 as usize);
+    let h = head_word(head);
+    mem::put(s, at, h);
+    mem::put(s, at + 1, count);
+}
+
+// Argument j of node n becomes v.
+pub fn put_arg(s: &mut [u8], limit: usize, n: NodeNo, j: u16, v: u16)
+    requires { ⌜ Room limit (now s) ⌝ }
+    requires { ⌜ n .0 < limit ⌝ }
+    requires { ⌜ j < length (g.args (g.node (graphOf limit (now s)) (n .0))) ⌝ }
+    ensures { λ _. ⌜ Did limit (now (s .entry)) (now (s .exit)) (setNode (n .0) (withArg j v (g.node (graphOf limit (now (s .entry))) (n .0)))) ⌝ }
+{
+    mem::put(s, 10 * (n.0 as usize) + 2 + (j as usize), v);
 }
 
 // A node's mark.
