@@ -13,13 +13,14 @@ use Rattle.book.specs.Syntax.{Symbol}
 use Rattle.heap.specs.Graph.{Node, cell, var}
 use Rattle.store.specs.Regions.{graphOf, linksOf, restOf, storeOf, Memory, Did, setNode, setRest}
 use Rattle.store.proofs.Writes.{make-is, make-none, length-rest}
+use Rattle.store.proofs.Laying.{Laying, lay-end}
 use Rattle.engine.specs.Code as c
 use Rattle.engine.specs.Machine as m
 use Rattle.machine.specs.Tables.{Space, varsAt, termsAt, termBound}
-use Rattle.machine.specs.View.{stackOf, preTerms, freeVars, curIn, stateOf, stopOf, ranOf}
+use Rattle.machine.specs.View.{stackOf, termsOf, preTerms, freeVars, curIn, stateOf, stopOf, ranOf}
 use Rattle.machine.specs.Contract.{runOn, pushed, Fine, Frame, Roomy, Went, ByTables}
 use Rattle.machine.proofs.Walking.{elem-some, elem-none}
-use Rattle.machine.proofs.Registers.{length-terms, terms-push, terms-drop, put-next, put-there}
+use Rattle.machine.proofs.Registers.{length-terms, terms-push, terms-drop, terms-get, put-next, put-there}
 use Rattle.machine.proofs.Frames.{frame-same, kept-node, kept-rest, kept-then, went-as, went-from}
 use Rattle.machine.proofs.Runs.{ended, state-is}
 use Rattle.machine.specs.declared.Regs.{Regs}
@@ -33,6 +34,27 @@ length-pre L base s k = length-terms k (drop (base + termsAt) (restOf L s))
 
 length-part : (L base j : ℕ) (s : List ℕ) → 16 * L + base + 3016 ≤ length (words s) → j ≤ 3016 → 3016 - j ≤ length (drop (base + j) (restOf L s))
 length-part L base j s room h = rw (length-drop, length-rest) (omega arith)
+
+-- a cell laid from the top of the pre-term stack
+pub length-top : (L base terms count : ℕ) (s : List ℕ) → count ≤ terms → length (take count (preTerms L base s terms)) ≡ count
+length-top L base terms count s h = length-take-le count (preTerms L base s terms) (rw (length-pre L base s terms) h)
+
+module _ (L base terms count j k : ℕ) (s₀ s : List ℕ) (o : Laying L k (take count (preTerms L base s₀ terms)) j s₀ s) where
+  pub lay-word : (v : ℕ) → j < count → count ≤ terms → v ≡ getD (restOf L s) (base + termsAt + (terms - 1 - j)) 0 → v ≡ getD (take count (preTerms L base s₀ terms)) j 0
+  unfolding preTerms
+  lay-word v h few e =
+      let rest : restOf L s ≡ restOf L s₀ = ap (λ (m : Memory). m .rest) (o .did .is) in
+      e
+      ∙ ap (λ (l : List ℕ). getD l (base + termsAt + (terms - 1 - j)) 0) rest
+      ∙ sym (getD-drop (base + termsAt) (restOf L s₀) (terms - 1 - j) 0)
+      ∙ sym (terms-get j terms (drop (base + termsAt) (restOf L s₀)) (omega arith))
+      ∙ sym (getD-take count (termsOf terms (drop (base + termsAt) (restOf L s₀))) j 0 h)
+
+  pub laid-is : (y : Symbol) (zs r : List ℕ) → k < L → count ≤ terms → count ≤ j → Did L r s₀ (setNode k (cell y zs)) → Did L r s (setNode k (cell y (take count (preTerms L base r terms))))
+  unfolding preTerms
+  laid-is y zs r lt few all d =
+      let rest : restOf L s₀ ≡ restOf L r = ap (λ (m : Memory). m .rest) (d .is) in
+      subst (λ (l : List ℕ). Did L r s (setNode k (cell y (take count (termsOf terms (drop (base + termsAt) l)))))) rest (lay-end L k (take count (preTerms L base s₀ terms)) j s₀ s lt o y zs r (rw (length-top L base terms count s₀ few) all) d)
 
 -- a term pushed
 module _ (L base : ℕ) (code : List ℕ) (r : Regs) (s : List ℕ) (fine : Fine r) (v : ℕ) where
@@ -118,13 +140,12 @@ module _ (L base : ℕ) (code : List ℕ) (r : Regs) (s : List ℕ) (fine : Fine
     unfolding stopOf stateOf m.run m.when m.made
     term-full h f = ended L base code r s fine Full (λ p q u. sym (rw (← b p q, length-pre L base s (r .terms), le-leb n (r .terms) h, make-none L (r .made) (cell y (take n (preTerms L base s (r .terms)))) s f)))
 
-    pub term-is : {s′ s″ : List ℕ} {a : Ran} (xs : List ℕ) → n ≤ r .terms → r .made < L → take n xs ≡ take n (preTerms L base s (r .terms)) → Did L s s′ (setNode (r .made) (cell y (take n xs)))
+    pub term-is : {s′ s″ : List ℕ} {a : Ran} → n ≤ r .terms → r .made < L → Did L s s′ (setNode (r .made) (cell y (take n (preTerms L base s (r .terms)))))
         → Went L base code (more (r .terms - n)) s′ s″ a (λ p. pushed (r .made) (stateOf L base code (more (r .terms - n)) s′)) → Went L base code r s s″ a (λ p. runOn p (c.makeTerm y) (stateOf L base code r s))
     unfolding pushed m.run m.when m.made stateOf preTerms
-    term-is {s′} xs h f e d w =
-        let d′ : Did L s s′ (setNode (r .made) (cell y (take n (preTerms L base s (r .terms))))) = subst (λ (l : List ℕ). Did L s s′ (setNode (r .made) (cell y l))) e d in
+    term-is {s′} h f d w =
         let left : drop n (preTerms L base s (r .terms)) ≡ preTerms L base s (r .terms - n) = terms-drop n (r .terms) (drop (base + termsAt) (restOf L s)) h in
-        went-from (made-frame (r .terms - n) (omega arith) d) (λ p q u. rw (← b p q, length-pre L base s (r .terms), le-leb n (r .terms) h, make-is L (r .made) (cell y (take n (preTerms L base s (r .terms)))) s s′ f d′, left) (sym (ap (pushed (r .made)) (made-state (r .terms - n) d)))) w
+        went-from (made-frame (r .terms - n) (omega arith) d) (λ p q u. rw (← b p q, length-pre L base s (r .terms), le-leb n (r .terms) h, make-is L (r .made) (cell y (take n (preTerms L base s (r .terms)))) s s′ f d, left) (sym (ap (pushed (r .made)) (made-state (r .terms - n) d)))) w
 
   -- STOREVAR
   module _ (v : ℕ) where

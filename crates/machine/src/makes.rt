@@ -6,9 +6,11 @@ use crate::tables;
 use store::Head;
 use store::NodeNo;
 ghost use mathlib.Core.Path.{_≡_};
-ghost use Prim.Native.Nat.{_+_, _-_, _≤_};
+ghost use Prim.Native.Nat.{_+_, _-_, _<_, _≤_};
 ghost use lib.ListN.{take};
+ghost use Rattle.heap.specs.Graph as g;
 ghost use Rattle.store.specs.Rows.{symbolOf};
+ghost use Rattle.store.specs.Regions.{Did, setNode};
 ghost use Rattle.engine.specs.Code as c;
 ghost use Rattle.machine.specs.Tables.{Space, termBound};
 ghost use Rattle.machine.specs.View.{preTerms, stateOf};
@@ -127,18 +129,27 @@ pub fn make_var(s: &mut [u8], limit: usize, base: usize, code: &[u8], regs: Regs
     push_term(s, limit, base, code, regs, NodeNo(k))
 }
 
-// The first `count` terms of the pre-term stack, its top first.
-pub fn top_terms(s: &[u8], limit: usize, base: usize, terms: usize, count: usize) -> [u16; 8]
+// Node k becomes a cell whose arguments are the top of the pre-term stack, the first on top.
+fn lay_cell(
+    s: &mut [u8],
+    limit: usize,
+    base: usize,
+    terms: usize,
+    k: NodeNo,
+    head: Head,
+    count: u16,
+)
     requires { ⌜ Space limit base (now s) ⌝ }
+    requires { ⌜ k .0 < limit ⌝ }
     requires { ⌜ (terms ≤ termBound) × (count ≤ terms) × (count ≤ 8) ⌝ }
-    ensures { λ r. ⌜ take count r ≡ take count (preTerms limit base (now (s .entry)) terms) ⌝ }
+    ensures { λ _. ⌜ Did limit (now (s .entry)) (now (s .exit)) (setNode (k .0) (g.cell (symbolOf head) (take count (preTerms limit base (now (s .entry)) terms)))) ⌝ }
 {
-    let mut args = [0; 8];
+    store::put_head(s, limit, k, head, count);
     for j in 0..count {
-        let at = base + 2696 + (terms - 1 - j);
-        args[j] = store::get_rest(s, limit, at);
+        let at = base + 2696 + (terms - 1 - (j as usize));
+        let v = store::get_rest(s, limit, at);
+        store::put_arg(s, limit, k, j, v);
     }
-    args
 }
 
 // MAKETERM: a cell whose arguments are the top of the pre-term stack, the first on top, goes there in their place.
@@ -177,9 +188,8 @@ pub fn make_term(
             stop: Stop::Full,
         };
     }
-    let args = top_terms(s, limit, base, regs.terms, n);
     let k = NodeNo(regs.made as u16);
-    store::put_cell(s, limit, k, head, args, count);
+    lay_cell(s, limit, base, regs.terms, k, head, count);
     let mut r = regs;
     r.made = regs.made + 1;
     r.terms = regs.terms - n;
