@@ -2,12 +2,12 @@
 -- Here, in order: a stack of links; the pre-term stack; the current register; the state; instructions; how an instruction and how code ends.
 -- Not here: the tables (Tables), what functions promise (Contract).
 -- Assumes nothing.
-use Prim.Native.Nat.{ℕ, zero, suc, _+_, _-_}
+use Prim.Native.Nat.{ℕ, zero, suc, _+_, _-_, _≤_}
 use mathlib.Core.List.{List, [], _∷_, reverse}
 use mathlib.Core.Bool.{Bool, true, false}
 use mathlib.Core.Option.{Option, none, some}
 use mathlib.Core.Path.{_≡_}
-use lib.ListN.{getD, getElem?, take, drop}
+use lib.ListN.{length, getD, getElem?, take, drop}
 use Rattle.heap.specs.Graph.{Graph, look, args}
 use Rattle.heap.specs.Store.{Store}
 use Rattle.store.specs.Rows.{symbolOf}
@@ -66,6 +66,11 @@ curOf (Holds n) = some (n .0)
 -- the node at one step of a position
 unfoldable pub childOf : Graph → ℕ → ℕ → Option ℕ
 childOf g h p = getElem? (args (look g h)) (p - 1)
+
+-- the steps that are there of `count` from place `from` on end before place `end`
+pub record StepsEnd (code : List ℕ) (from count end : ℕ) : Type 0 where
+  pub there : end ≤ length code
+  pub steps : take (end - from) (drop from code) ≡ take count (drop from code)
 
 -- the machine's state
 unfoldable pub stateOf : ℕ → ℕ → List ℕ → Regs → List ℕ → m.State Store

@@ -19,7 +19,7 @@ ghost use Rattle.store.proofs.Laws.{countOf};
 ghost use Rattle.engine.specs.Code as c;
 ghost use Rattle.engine.specs.Machine as m;
 ghost use Rattle.machine.specs.Tables.{Space, codeBound};
-ghost use Rattle.machine.specs.View.{curOf, childOf, stateOf};
+ghost use Rattle.machine.specs.View.{curOf, childOf, StepsEnd, stateOf};
 ghost use Rattle.machine.specs.Contract.{runOn, Fine, Went};
 
 // What stands at a node; beyond the nodes, a variable.
@@ -70,19 +70,28 @@ fn args_of(k: Seen) -> u16
     }
 }
 
+// Where `count` steps from place `from` on end in the code.
+fn steps_end(code: &[u8], from: usize, count: u8) -> usize
+    requires { ⌜ from ≤ codeBound + 16 ⌝ }
+    ensures { λ r. ⌜ StepsEnd (now (code .entry)) from count r ⌝ }
+{
+    let end = from + (count as usize);
+    if end > code.len() {
+        return code.len();
+    }
+    end
+}
+
 // The node at a position under a node: its steps are `count` bytes of the code.
 pub fn walk(s: &[u8], limit: usize, code: &[u8], from: usize, count: u8, n: NodeNo) -> Cur
     requires { ⌜ Room limit (now s) ⌝ }
     requires { ⌜ from ≤ codeBound + 16 ⌝ }
     ensures { λ r. ⌜ curOf r ≡ m.at (graphOf limit (now (s .entry))) (n .0) (take count (drop from (now (code .entry)))) ⌝ }
 {
+    let end = steps_end(code, from, count);
     let mut h = n;
     let mut i = from;
-    let end = from + (count as usize);
     while i < end {
-        if i >= code.len() {
-            return Cur::Holds(h);
-        }
         let k = child(s, limit, h, code[i]);
         let Cur::Holds(next) = k else {
             return Cur::Empty;
