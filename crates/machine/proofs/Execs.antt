@@ -21,9 +21,8 @@ use Rattle.machine.specs.declared.Regs.{Regs}
 use Rattle.machine.specs.declared.Ran.{Ran}
 use Rattle.machine.specs.declared.Op.{Op}
 use Rattle.machine.specs.declared.Op.the-variants.{Load, Branch, Go, Push, Pop, MakeAnon, StoreVar, MakeVar, MakeTerm, Replace, Narrow, Choice, Fail, Wrong}
-use Rattle.machine.specs.declared.Stop.{Stop}
 use Rattle.machine.specs.declared.Stop.the-variants.{Broken}
-use Rattle.machine.specs.declared.Next.the-variants.{Goes, Ends}
+use mathlib.Core.Bool.{Bool, true, false, not}
 
 -- an operation by its constructor
 pub as-op : (at : ℕ) {L base : ℕ} {code : List ℕ} {r : Regs} {s s′ : List ℕ} {a : Ran} {o op : Op} → op ≡ o → Went L base code r s s′ a (λ p. runOn p (opOf code at o) (stateOf L base code r s)) → Went L base code r s s′ a (λ p. runOn p (opOf code at op) (stateOf L base code r s))
@@ -47,17 +46,26 @@ width-small Wrong = omega arith
 
 -- a step
 module _ (L base : ℕ) (code : List ℕ) (r : Regs) (s : List ℕ) (fine : Fine r) where
-  pub step-past : length code ≤ r .pc → Went L base code r s s (record { regs = r; next = Ends Broken }) (λ p. stepOn p (stateOf L base code r s))
+  pub step-past : length code ≤ r .pc → Went L base code r s s (record { regs = r; goes = false; stop = Broken }) (λ p. stepOn p (stateOf L base code r s))
   unfolding stopOf stateOf m.step m.run c.decode
   step-past h = ended L base code r s fine Broken (λ p q u. sym (rw (drop-of-length-le code h)))
 
   pub step-is : {s′ : List ℕ} {a : Ran} (op : Op) (w : ℕ) → opOf code (r .pc) op ≡ c.decode (drop (r .pc) code) → w ≡ widthOf op
-      → Went L base code (record { pc = r .pc + w; top = r .top; cur = r .cur; terms = r .terms; vars = r .vars; made = r .made }) s s′ a (λ p. runOn p (opOf code (r .pc) op) (stateOf L base code (record { pc = r .pc + w; top = r .top; cur = r .cur; terms = r .terms; vars = r .vars; made = r .made }) s))
+      → Went L base code (record { pc = r .pc + w; top = r .top; holds = r .holds; cur = r .cur; terms = r .terms; vars = r .vars; made = r .made }) s s′ a (λ p. runOn p (opOf code (r .pc) op) (stateOf L base code (record { pc = r .pc + w; top = r .top; holds = r .holds; cur = r .cur; terms = r .terms; vars = r .vars; made = r .made }) s))
       → Went L base code r s s′ a (λ p. stepOn p (stateOf L base code r s))
   unfolding stateOf m.step
   step-is op w e ew W =
       let v : c.width (opOf code (r .pc) op) ≡ w = width-op code (r .pc) op ∙ sym ew in
       went-from (frame-regs refl (omega arith) fine) (λ p h u. rw (← e, v, drop-drop w (r .pc) code)) W
+
+-- a flag and its test
+pub refused : (b : Bool) → not b ≡ true → b ≡ false
+refused true e = sym e
+refused false e = refl
+
+pub passed : (b : Bool) → not b ≡ false → b ≡ true
+passed true e = refl
+passed false e = sym e
 
 -- at most n steps
 exec-on : (left : ℕ) (p : Program) (x y : m.State Store) → 0 < left → stepOn p x ≡ m.on y → execOn left p x ≡ execOn (left - 1) p y
@@ -100,24 +108,24 @@ module _ {L base : ℕ} {code : List ℕ} {r₀ : Regs} {n : ℕ} {s₀ : List �
         go p q u l (suc k) e z = absurd (omega arith)
 
     module _ {s′ : List ℕ} {a : Ran} (lt : 0 < left) (w : Went L base code r s s′ a (λ p. stepOn p (stateOf L base code r s))) where
-      told : (p : Program) → Has p base (restOf L s₀) → p .code ≡ code → Low n p (stateOf L base code r₀ s₀) → ranOf L base code s′ (a .regs) (a .next) ≡ stepOn p (stateOf L base code r s)
+      told : (p : Program) → Has p base (restOf L s₀) → p .code ≡ code → Low n p (stateOf L base code r₀ s₀) → ranOf L base code s′ (a .regs) (a .goes) (a .stop) ≡ stepOn p (stateOf L base code r s)
       told p h u l = w .is p (has-kept (A .frame .kept) p h) u (low-now left p (stateOf L base code r s) lt (A .is p h u l .1))
 
-      pub along-on : a .next ≡ Goes → length s′ ≡ length s → Along L base code r₀ n s₀ s′ (a .regs) (left - 1)
+      pub along-on : a .goes ≡ true → length s′ ≡ length s → Along L base code r₀ n s₀ s′ (a .regs) (left - 1)
       unfolding ranOf
       along-on e long′ = record {
         is = λ p h u l.
-            let on : stepOn p (stateOf L base code r s) ≡ m.on (stateOf L base code (a .regs) s′) = sym (told p h u l) ∙ ap (ranOf L base code s′ (a .regs)) e in
+            let on : stepOn p (stateOf L base code r s) ≡ m.on (stateOf L base code (a .regs) s′) = sym (told p h u l) ∙ ap (λ (b : Bool). ranOf L base code s′ (a .regs) b (a .stop)) e in
             (sym (exec-on left p (stateOf L base code r s) (stateOf L base code (a .regs) s′) lt on) ∙ A .is p h u l .0, low-next left p (stateOf L base code r s) (stateOf L base code (a .regs) s′) lt on (A .is p h u l .1));
         frame = frame-then (A .frame) (w .frame);
         long = long′ ∙ A .long;
       }
 
-      pub along-ends : (x : Stop) → a .next ≡ Ends x → Came L base code r₀ n s₀ s′ (record { regs = a .regs; stop = x })
+      pub along-ends : a .goes ≡ false → Came L base code r₀ n s₀ s′ (record { regs = a .regs; stop = a .stop })
       unfolding ranOf
-      along-ends x e = record {
+      along-ends e = record {
         is = λ p h u l.
-            let end : stepOn p (stateOf L base code r s) ≡ m.ends (stopOf L base s′ (a .regs) x) = sym (told p h u l) ∙ ap (ranOf L base code s′ (a .regs)) e in
-            sym (exec-ends left p (stateOf L base code r s) (stopOf L base s′ (a .regs) x) lt end) ∙ A .is p h u l .0;
+            let end : stepOn p (stateOf L base code r s) ≡ m.ends (stopOf L base s′ (a .regs) (a .stop)) = sym (told p h u l) ∙ ap (λ (b : Bool). ranOf L base code s′ (a .regs) b (a .stop)) e in
+            sym (exec-ends left p (stateOf L base code r s) (stopOf L base s′ (a .regs) (a .stop)) lt end) ∙ A .is p h u l .0;
         frame = frame-then (A .frame) (w .frame);
       }

@@ -7,5 +7,4 @@ pub mod Making
 pub mod Execs
 pub mod Stacks
 pub mod Driving
-pub mod Rooms
 pub mod Tabled

@@ -13,21 +13,20 @@ use Rattle.book.specs.Syntax.{Symbol}
 use Rattle.heap.specs.Graph.{Node, cell, var}
 use Rattle.store.specs.Regions.{graphOf, linksOf, restOf, storeOf, Memory, Did, setNode, setRest}
 use Rattle.store.proofs.Writes.{make-is, make-none, length-rest}
+use Rattle.store.proofs.Laying.{Laying, lay-end}
 use Rattle.engine.specs.Code as c
 use Rattle.engine.specs.Machine as m
-use Rattle.store.specs.declared.NodeNo.{NodeNo}
 use Rattle.machine.specs.Tables.{Space, varsAt, termsAt, termBound}
-use Rattle.machine.specs.View.{stackOf, preTerms, freeVars, curOf, stateOf, stopOf, ranOf}
+use Rattle.machine.specs.View.{stackOf, termsOf, preTerms, freeVars, curIn, stateOf, stopOf, ranOf}
 use Rattle.machine.specs.Contract.{runOn, pushed, Fine, Frame, Roomy, Went, ByTables}
 use Rattle.machine.proofs.Walking.{elem-some, elem-none}
-use Rattle.machine.proofs.Registers.{length-terms, terms-push, terms-drop, put-next, put-there}
+use Rattle.machine.proofs.Registers.{length-terms, terms-push, terms-drop, terms-get, put-next, put-there}
 use Rattle.machine.proofs.Frames.{frame-same, kept-node, kept-rest, kept-then, went-as, went-from}
 use Rattle.machine.proofs.Runs.{ended, state-is}
 use Rattle.machine.specs.declared.Regs.{Regs}
 use Rattle.machine.specs.declared.Ran.{Ran}
-use Rattle.machine.specs.declared.Cur.the-variants.{Empty, Holds}
 use Rattle.machine.specs.declared.Stop.the-variants.{Broken, Full}
-use Rattle.machine.specs.declared.Next.the-variants.{Goes, Ends}
+use mathlib.Core.Bool.{true, false}
 
 length-pre : (L base : ℕ) (s : List ℕ) (k : ℕ) → length (preTerms L base s k) ≡ k
 unfolding preTerms
@@ -36,14 +35,35 @@ length-pre L base s k = length-terms k (drop (base + termsAt) (restOf L s))
 length-part : (L base j : ℕ) (s : List ℕ) → 16 * L + base + 3016 ≤ length (words s) → j ≤ 3016 → 3016 - j ≤ length (drop (base + j) (restOf L s))
 length-part L base j s room h = rw (length-drop, length-rest) (omega arith)
 
+-- a cell laid from the top of the pre-term stack
+pub length-top : (L base terms count : ℕ) (s : List ℕ) → count ≤ terms → length (take count (preTerms L base s terms)) ≡ count
+length-top L base terms count s h = length-take-le count (preTerms L base s terms) (rw (length-pre L base s terms) h)
+
+module _ (L base terms count j k : ℕ) (s₀ s : List ℕ) (o : Laying L k (take count (preTerms L base s₀ terms)) j s₀ s) where
+  pub lay-word : (v : ℕ) → j < count → count ≤ terms → v ≡ getD (restOf L s) (base + termsAt + (terms - 1 - j)) 0 → v ≡ getD (take count (preTerms L base s₀ terms)) j 0
+  unfolding preTerms
+  lay-word v h few e =
+      let rest : restOf L s ≡ restOf L s₀ = ap (λ (m : Memory). m .rest) (o .did .is) in
+      e
+      ∙ ap (λ (l : List ℕ). getD l (base + termsAt + (terms - 1 - j)) 0) rest
+      ∙ sym (getD-drop (base + termsAt) (restOf L s₀) (terms - 1 - j) 0)
+      ∙ sym (terms-get j terms (drop (base + termsAt) (restOf L s₀)) (omega arith))
+      ∙ sym (getD-take count (termsOf terms (drop (base + termsAt) (restOf L s₀))) j 0 h)
+
+  pub laid-is : (y : Symbol) (zs r : List ℕ) → k < L → count ≤ terms → count ≤ j → Did L r s₀ (setNode k (cell y zs)) → Did L r s (setNode k (cell y (take count (preTerms L base r terms))))
+  unfolding preTerms
+  laid-is y zs r lt few all d =
+      let rest : restOf L s₀ ≡ restOf L r = ap (λ (m : Memory). m .rest) (d .is) in
+      subst (λ (l : List ℕ). Did L r s (setNode k (cell y (take count (termsOf terms (drop (base + termsAt) l)))))) rest (lay-end L k (take count (preTerms L base s₀ terms)) j s₀ s lt o y zs r (rw (length-top L base terms count s₀ few) all) d)
+
 -- a term pushed
 module _ (L base : ℕ) (code : List ℕ) (r : Regs) (s : List ℕ) (fine : Fine r) (v : ℕ) where
-  pub push-full : termBound ≤ r .terms → Went L base code r s s (record { regs = r; next = Ends Broken }) (λ p. pushed v (stateOf L base code r s))
+  pub push-full : termBound ≤ r .terms → Went L base code r s s (record { regs = r; goes = false; stop = Broken }) (λ p. pushed v (stateOf L base code r s))
   unfolding pushed Roomy stateOf
   push-full h = record { is = λ p q u room. absurd (omega (arith, length-pre L base s (r .terms))); frame = frame-same fine }
 
   pub push-goes : {s′ : List ℕ} → Space L base s → r .terms < termBound → Did L s s′ (setRest (base + termsAt + r .terms) v)
-      → Went L base code r s s′ (record { regs = record { pc = r .pc; top = r .top; cur = r .cur; terms = r .terms + 1; vars = r .vars; made = r .made }; next = Goes }) (λ p. pushed v (stateOf L base code r s))
+      → Went L base code r s s′ (record { regs = record { pc = r .pc; top = r .top; holds = r .holds; cur = r .cur; terms = r .terms + 1; vars = r .vars; made = r .made }; goes = true; stop = Broken }) (λ p. pushed v (stateOf L base code r s))
   unfolding pushed ranOf stateOf stackOf preTerms freeVars storeOf
   push-goes {s′} sp lt d =
       let links : linksOf L s′ ≡ linksOf L s = ap (λ (m : Memory). m .links) (d .is) in
@@ -61,15 +81,15 @@ module _ (L base : ℕ) (code : List ℕ) (r : Regs) (s : List ℕ) (fine : Fine
 
 -- PUSH and MAKEVAR
 module _ (L base : ℕ) (code : List ℕ) (r : Regs) (s : List ℕ) (fine : Fine r) where
-  pub push-lost : r .cur ≡ Empty → Went L base code r s s (record { regs = r; next = Ends Broken }) (λ p. runOn p c.push (stateOf L base code r s))
-  unfolding stopOf stateOf curOf m.run m.need
+  pub push-lost : r .holds ≡ false → Went L base code r s s (record { regs = r; goes = false; stop = Broken }) (λ p. runOn p c.push (stateOf L base code r s))
+  unfolding stopOf stateOf curIn m.run m.need
   push-lost e = ended L base code r s fine Broken (λ p h u. sym (rw e))
 
-  pub push-is : {s′ : List ℕ} {a : Ran} (n : NodeNo) → r .cur ≡ Holds n → Went L base code r s s′ a (λ p. pushed (n .0) (stateOf L base code r s)) → Went L base code r s s′ a (λ p. runOn p c.push (stateOf L base code r s))
-  unfolding stateOf pushed curOf m.run m.need
-  push-is n e w = went-as (λ p h u. rw e) w
+  pub push-is : {s′ : List ℕ} {a : Ran} → r .holds ≡ true → Went L base code r s s′ a (λ p. pushed (r .cur .0) (stateOf L base code r s)) → Went L base code r s s′ a (λ p. runOn p c.push (stateOf L base code r s))
+  unfolding stateOf pushed curIn m.run m.need
+  push-is e w = went-as (λ p h u. rw e) w
 
-  pub var-lost : (v : ℕ) → r .vars ≤ v → Went L base code r s s (record { regs = r; next = Ends Broken }) (λ p. runOn p (c.makeVar v) (stateOf L base code r s))
+  pub var-lost : (v : ℕ) → r .vars ≤ v → Went L base code r s s (record { regs = r; goes = false; stop = Broken }) (λ p. runOn p (c.makeVar v) (stateOf L base code r s))
   unfolding stopOf stateOf freeVars m.run m.need
   var-lost v h = ended L base code r s fine Broken (λ p q u. sym (rw (elem-none (freeVars L base s (r .vars)) v (rw length-take (omega arith)))))
 
@@ -84,18 +104,18 @@ module _ (L base : ℕ) (code : List ℕ) (r : Regs) (s : List ℕ) (fine : Fine
 
 -- a node made
 module _ (L base : ℕ) (code : List ℕ) (r : Regs) (s : List ℕ) (fine : Fine r) where
-  pub anon-full : L ≤ r .made → Went L base code r s s (record { regs = r; next = Ends Full }) (λ p. runOn p c.makeAnon (stateOf L base code r s))
+  pub anon-full : L ≤ r .made → Went L base code r s s (record { regs = r; goes = false; stop = Full }) (λ p. runOn p c.makeAnon (stateOf L base code r s))
   unfolding stopOf stateOf m.run m.made
   anon-full h = ended L base code r s fine Full (λ p q u. sym (rw (make-none L (r .made) var s h)))
 
   -- the registers with one more node, and fewer terms
   abbrev pub more : ℕ → Regs
-  more k = record { pc = r .pc; top = r .top; cur = r .cur; terms = k; vars = r .vars; made = r .made + 1 }
+  more k = record { pc = r .pc; top = r .top; holds = r .holds; cur = r .cur; terms = k; vars = r .vars; made = r .made + 1 }
 
   pub made-frame : {s′ : List ℕ} {x : Node} (k : ℕ) → k ≤ termBound → Did L s s′ (setNode (r .made) x) → Frame L base s s′ r (more k)
   made-frame k h d = record { kept = kept-node d (omega arith); links = ap (λ (m : Memory). m .links) (d .is); top = refl; made = omega arith; fine = (h, fine .1) }
 
-  made-state : {s′ : List ℕ} {x : Node} (k : ℕ) → Did L s s′ (setNode (r .made) x) → stateOf L base code (more k) s′ ≡ m.st (drop (r .pc) code) (stackOf L s (r .top)) (curOf (r .cur)) (preTerms L base s k) (freeVars L base s (r .vars)) (storeOf L (r .made + 1) s′)
+  made-state : {s′ : List ℕ} {x : Node} (k : ℕ) → Did L s s′ (setNode (r .made) x) → stateOf L base code (more k) s′ ≡ m.st (drop (r .pc) code) (stackOf L s (r .top)) (curIn (r .holds) (r .cur .0)) (preTerms L base s k) (freeVars L base s (r .vars)) (storeOf L (r .made + 1) s′)
   unfolding stateOf stackOf preTerms freeVars
   made-state {s′} k d =
       let links : linksOf L s′ ≡ linksOf L s = ap (λ (m : Memory). m .links) (d .is) in
@@ -109,34 +129,33 @@ module _ (L base : ℕ) (code : List ℕ) (r : Regs) (s : List ℕ) (fine : Fine
 
   -- MAKETERM
   module _ (y : Symbol) (n : ℕ) (b : ByTables base (restOf L s) (λ p. n ≡ m.arityOf p y)) where
-    pub term-many : 8 < n → Went L base code r s s (record { regs = r; next = Ends Broken }) (λ p. runOn p (c.makeTerm y) (stateOf L base code r s))
+    pub term-many : 8 < n → Went L base code r s s (record { regs = r; goes = false; stop = Broken }) (λ p. runOn p (c.makeTerm y) (stateOf L base code r s))
     term-many h = ended L base code r s fine Broken (λ p q u. absurd (omega (arith, b p q, q .small y)))
 
-    pub term-lost : r .terms < n → Went L base code r s s (record { regs = r; next = Ends Broken }) (λ p. runOn p (c.makeTerm y) (stateOf L base code r s))
+    pub term-lost : r .terms < n → Went L base code r s s (record { regs = r; goes = false; stop = Broken }) (λ p. runOn p (c.makeTerm y) (stateOf L base code r s))
     unfolding stopOf stateOf m.run m.when
     term-lost h = ended L base code r s fine Broken (λ p q u. sym (rw (← b p q, length-pre L base s (r .terms), lt-leb n (r .terms) h)))
 
-    pub term-full : n ≤ r .terms → L ≤ r .made → Went L base code r s s (record { regs = r; next = Ends Full }) (λ p. runOn p (c.makeTerm y) (stateOf L base code r s))
+    pub term-full : n ≤ r .terms → L ≤ r .made → Went L base code r s s (record { regs = r; goes = false; stop = Full }) (λ p. runOn p (c.makeTerm y) (stateOf L base code r s))
     unfolding stopOf stateOf m.run m.when m.made
     term-full h f = ended L base code r s fine Full (λ p q u. sym (rw (← b p q, length-pre L base s (r .terms), le-leb n (r .terms) h, make-none L (r .made) (cell y (take n (preTerms L base s (r .terms)))) s f)))
 
-    pub term-is : {s′ s″ : List ℕ} {a : Ran} (xs : List ℕ) → n ≤ r .terms → r .made < L → take n xs ≡ take n (preTerms L base s (r .terms)) → Did L s s′ (setNode (r .made) (cell y (take n xs)))
+    pub term-is : {s′ s″ : List ℕ} {a : Ran} → n ≤ r .terms → r .made < L → Did L s s′ (setNode (r .made) (cell y (take n (preTerms L base s (r .terms)))))
         → Went L base code (more (r .terms - n)) s′ s″ a (λ p. pushed (r .made) (stateOf L base code (more (r .terms - n)) s′)) → Went L base code r s s″ a (λ p. runOn p (c.makeTerm y) (stateOf L base code r s))
     unfolding pushed m.run m.when m.made stateOf preTerms
-    term-is {s′} xs h f e d w =
-        let d′ : Did L s s′ (setNode (r .made) (cell y (take n (preTerms L base s (r .terms))))) = subst (λ (l : List ℕ). Did L s s′ (setNode (r .made) (cell y l))) e d in
+    term-is {s′} h f d w =
         let left : drop n (preTerms L base s (r .terms)) ≡ preTerms L base s (r .terms - n) = terms-drop n (r .terms) (drop (base + termsAt) (restOf L s)) h in
-        went-from (made-frame (r .terms - n) (omega arith) d) (λ p q u. rw (← b p q, length-pre L base s (r .terms), le-leb n (r .terms) h, make-is L (r .made) (cell y (take n (preTerms L base s (r .terms)))) s s′ f d′, left) (sym (ap (pushed (r .made)) (made-state (r .terms - n) d)))) w
+        went-from (made-frame (r .terms - n) (omega arith) d) (λ p q u. rw (← b p q, length-pre L base s (r .terms), le-leb n (r .terms) h, make-is L (r .made) (cell y (take n (preTerms L base s (r .terms)))) s s′ f d, left) (sym (ap (pushed (r .made)) (made-state (r .terms - n) d)))) w
 
   -- STOREVAR
   module _ (v : ℕ) where
-    pub store-lost : r .vars < v → Space L base s → Went L base code r s s (record { regs = r; next = Ends Broken }) (λ p. runOn p (c.storeVar v) (stateOf L base code r s))
+    pub store-lost : r .vars < v → Space L base s → Went L base code r s s (record { regs = r; goes = false; stop = Broken }) (λ p. runOn p (c.storeVar v) (stateOf L base code r s))
     unfolding stopOf stateOf freeVars m.run m.when
     store-lost h sp =
         let long : length (take (r .vars) (drop (base + varsAt) (restOf L s))) ≡ r .vars = length-take-le (r .vars) (drop (base + varsAt) (restOf L s)) (omega (arith, length-part L base varsAt s (sp .2) (omega arith))) in
         ended L base code r s fine Broken (λ p q u. sym (rw (long, lt-leb v (r .vars) h)))
 
-    pub store-full : v ≤ r .vars → Space L base s → L ≤ r .made → Went L base code r s s (record { regs = r; next = Ends Full }) (λ p. runOn p (c.storeVar v) (stateOf L base code r s))
+    pub store-full : v ≤ r .vars → Space L base s → L ≤ r .made → Went L base code r s s (record { regs = r; goes = false; stop = Full }) (λ p. runOn p (c.storeVar v) (stateOf L base code r s))
     unfolding stopOf stateOf freeVars m.run m.when m.made
     store-full h sp f =
         let long : length (take (r .vars) (drop (base + varsAt) (restOf L s))) ≡ r .vars = length-take-le (r .vars) (drop (base + varsAt) (restOf L s)) (omega (arith, length-part L base varsAt s (sp .2) (omega arith))) in
@@ -144,7 +163,7 @@ module _ (L base : ℕ) (code : List ℕ) (r : Regs) (s : List ℕ) (fine : Fine
 
     pub store-is : {s′ s″ : List ℕ} (k : ℕ) → v ≤ r .vars → v < 256 → Space L base s → r .made < L → Did L s s′ (setNode (r .made) var) → Did L s′ s″ (setRest (base + varsAt + v) (r .made))
         → ((w : List ℕ) → 576 ≤ length w → take k (set w v (r .made)) ≡ m.put (take (r .vars) w) v (r .made)) → k ≤ 256
-        → Went L base code r s s″ (record { regs = record { pc = r .pc; top = r .top; cur = r .cur; terms = r .terms; vars = k; made = r .made + 1 }; next = Goes }) (λ p. runOn p (c.storeVar v) (stateOf L base code r s))
+        → Went L base code r s s″ (record { regs = record { pc = r .pc; top = r .top; holds = r .holds; cur = r .cur; terms = r .terms; vars = k; made = r .made + 1 }; goes = true; stop = Broken }) (λ p. runOn p (c.storeVar v) (stateOf L base code r s))
     unfolding ranOf stateOf stackOf preTerms freeVars storeOf m.run m.when m.made
     store-is {s′} {s″} k h small sp f d e reg few =
         let long : length (take (r .vars) (drop (base + varsAt) (restOf L s))) ≡ r .vars = length-take-le (r .vars) (drop (base + varsAt) (restOf L s)) (omega (arith, length-part L base varsAt s (sp .2) (omega arith))) in

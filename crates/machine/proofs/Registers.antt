@@ -5,13 +5,11 @@ use mathlib.Core.Path.{_≡_, refl, ap, sym, _∙_}
 use mathlib.Core.Option.{none, some}
 use mathlib.Core.List.{List, _∷_}
 use lib.ListN.{length, getD, getElem?, take, drop, set, length-take, drop-of-length-le}
-use lib.Seq.{getD-drop, take-suc, getD-set-same, getD-set-other, take-take, take-suc-set, take-set-lt, set-split, length-take-le}
+use lib.Seq.{getD-set-same, getD-set-other, take-take, take-suc-set, take-set-lt, set-split, length-take-le}
 use native.Mathlib.Omega.{arith}
 use native.Mathlib.Numerals.{add-one}
-use Rattle.store.specs.Regions.{restOf}
 use Rattle.engine.specs.Machine.{put}
-use Rattle.machine.specs.View.{chain, termsOf, stackOf, preTerms}
-use Rattle.machine.specs.Tables.{termsAt}
+use Rattle.machine.specs.View.{chain, termsOf, stackOf}
 
 pub length-terms : (k : ℕ) (w : List ℕ) → length (termsOf k w) ≡ k
 unfolding termsOf
@@ -43,13 +41,6 @@ pub terms-first : (k : ℕ) (w : List ℕ) → 0 < k → getElem? (termsOf k w) 
 unfolding termsOf
 terms-first zero w h = absurd (omega arith)
 terms-first (suc k) w h = let e : suc k - 1 ≡ k = omega arith in rw e
-
--- one more argument read
-pub terms-next : (L base terms j v : ℕ) (s xs : List ℕ) → j < terms → j < length xs → take j xs ≡ take j (preTerms L base s terms) → v ≡ getD (restOf L s) (base + termsAt + (terms - 1 - j)) 0 → take (j + 1) (set xs j v) ≡ take (j + 1) (preTerms L base s terms)
-unfolding preTerms
-terms-next L base terms j v s xs h l e ev =
-    let there : v ≡ getD (termsOf terms (drop (base + termsAt) (restOf L s))) j 0 = ev ∙ sym (getD-drop (base + termsAt) (restOf L s) (terms - 1 - j) 0) ∙ sym (terms-get j terms (drop (base + termsAt) (restOf L s)) h) in
-    rw (add-one, take-suc-set xs j v l, take-suc (termsOf terms (drop (base + termsAt) (restOf L s))) j 0 (rw length-terms h), e, ← there)
 
 -- register v set: the last one and one more, or one of those that are there
 pub put-next : (v k : ℕ) (w : List ℕ) → v < length w → take (v + 1) (set w v k) ≡ put (take v w) v k

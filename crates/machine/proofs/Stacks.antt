@@ -1,17 +1,15 @@
--- Laws of the stack of links: its top, a call pushed, the settled stack.
+-- Laws of the stack of links: its top, the settled stack.
 -- Assumes nothing.
 use Prim.Native.Nat.{ℕ, zero, suc, _+_, _-_, _*_, _≤_, _<_}
-use mathlib.Core.Path.{_≡_, refl, ap, sym, _∙_, subst}
-use mathlib.Core.List.{List, [], _∷_, List·Memᴰ, List·Memᴰ·head, List·Memᴰ·tail}
-use lib.ListN.{length, getD, set, List·getD-eq-default}
-use lib.Seq.{getD-set-same, getD-set-other}
+use mathlib.Core.Path.{_≡_, refl, ap, sym, _∙_}
+use mathlib.Core.List.{List, [], _∷_}
+use lib.ListN.{length, getD, List·getD-eq-default}
 use native.Mathlib.Omega.{arith}
-use native.Mathlib.Numerals.{add-one}
 use Rattle.mem.specs.Words.{words}
 use Rattle.book.specs.Syntax.{con, fun}
 use Rattle.heap.specs.Graph.{Graph, Node, cell, var, fwd, node, follow, look}
 use Rattle.store.specs.Rows.{seen}
-use Rattle.store.specs.Regions.{graphOf, linksOf, Memory, Did, setLink}
+use Rattle.store.specs.Regions.{graphOf, linksOf}
 use Rattle.store.proofs.Writes.{length-links}
 use Rattle.engine.specs.Machine as m
 use Rattle.book.specs.declared.FunNo.{FunNo}
@@ -28,26 +26,10 @@ chain-more zero l t h = absurd (omega arith)
 chain-more (suc n) l zero h = refl
 chain-more (suc n) l (suc k) h = ap (λ (r : List ℕ). k ∷ r) (chain-more n l (getD l k 0) (omega arith))
 
-chain-less : (n : ℕ) (l : List ℕ) (t : ℕ) → length (chain (suc n) l t) ≤ n → chain (suc n) l t ≡ chain n l t
-unfolding chain
-chain-less zero l zero h = refl
-chain-less zero l (suc k) h = absurd (omega arith)
-chain-less (suc n) l zero h = refl
-chain-less (suc n) l (suc k) h = ap (λ (r : List ℕ). k ∷ r) (chain-less n l (getD l k 0) (omega arith))
-
 chain-zero : (n : ℕ) (l : List ℕ) → chain n l 0 ≡ []
 unfolding chain
 chain-zero zero l = refl
 chain-zero (suc n) l = refl
-
--- a link elsewhere changes nothing
-chain-apart : (n : ℕ) (l : List ℕ) (k v t : ℕ) → (List·Memᴰ k (chain n l t) → ⊥) → chain n (set l k v) t ≡ chain n l t
-unfolding chain
-chain-apart zero l k v t away = refl
-chain-apart (suc n) l k v zero away = refl
-chain-apart (suc n) l k v (suc j) away =
-    let other : getD (set l k v) j 0 ≡ getD l j 0 = getD-set-other l k j v 0 (λ e. away (List·Memᴰ·head (sym e))) in
-    ap (λ (r : List ℕ). j ∷ r) (ap (chain n (set l k v)) other ∙ chain-apart n l k v (getD l j 0) (λ q. away (List·Memᴰ·tail q)))
 
 pub stack-cons : (L : ℕ) (s : List ℕ) (t : ℕ) → 0 < t → stackOf L s t ≡ (t - 1) ∷ chain L (linksOf L s) (getD (linksOf L s) (t - 1) 0)
 unfolding stackOf chain
@@ -57,16 +39,6 @@ stack-cons L s (suc k) h = let e : suc k - 1 ≡ k = omega arith in rw e
 pub stack-nil : (L : ℕ) (s : List ℕ) (t : ℕ) → t ≡ 0 → stackOf L s t ≡ []
 unfolding stackOf chain
 stack-nil L s t e = rw e
-
--- a call pushed
-pub stack-link : (L : ℕ) (s s′ : List ℕ) (k t : ℕ) → Did L s s′ (setLink k t) → 16 * L ≤ length (words s) → k < L → (List·Memᴰ k (stackOf L s t) → ⊥) → length (stackOf L s t) ≤ L → stackOf L s′ (k + 1) ≡ k ∷ stackOf L s t
-unfolding stackOf chain
-stack-link L s s′ k t d room lt away few =
-    let links : linksOf L s′ ≡ set (linksOf L s) k t = ap (λ (m : Memory). m .links) (d .is) in
-    let same : getD (set (linksOf L s) k t) k 0 ≡ t = getD-set-same (linksOf L s) k t 0 (rw (length-links L s room) lt) in
-    let less : chain (suc L) (linksOf L s) t ≡ chain L (linksOf L s) t = chain-less L (linksOf L s) t few in
-    let away′ : List·Memᴰ k (chain L (linksOf L s) t) → ⊥ = subst (λ (l : List ℕ). List·Memᴰ k l → ⊥) less away in
-    rw (add-one, links) (ap (λ (r : List ℕ). k ∷ r) (ap (chain L (set (linksOf L s) k t)) same ∙ chain-apart L (linksOf L s) k t t away′ ∙ sym less))
 
 -- what is seen says whether the top settles
 not-fun : (f : FunNo) → Fun f ≡ Nothing → ⊥

@@ -4,8 +4,8 @@ use Prim.Native.Nat.{ℕ, zero, suc, _+_, _-_, _*_, _≤_, _<_}
 use mathlib.Core.Path.{_≡_, refl, ap, sym, _∙_}
 use mathlib.Core.Option.{Option, none, some}
 use mathlib.Core.List.{List, [], _∷_}
-use lib.ListN.{length, getD, getElem?, take, drop, drop-of-length-le, List·getD-eq-default}
-use lib.Seq.{drop-cons, take-nil}
+use lib.ListN.{length, getD, getElem?, take, drop, length-drop, List·getD-eq-default}
+use lib.Seq.{drop-cons, take-all}
 use borrow.Author.Tests.{ne-eqb, eq-eqb}
 use native.Mathlib.Omega.{arith}
 use native.Mathlib.Numerals.{add-one}
@@ -23,7 +23,7 @@ use Rattle.store.specs.declared.Seen.the-variants.{Var}
 use Rattle.store.specs.declared.Head.{Head}
 use Rattle.store.specs.declared.Head.the-variants.{Makes, Calls}
 use Rattle.machine.specs.Tables.{Home}
-use Rattle.machine.specs.View.{curOf, childOf, armIs}
+use Rattle.machine.specs.View.{curOf, childOf, StepsEnd, armIs}
 use Rattle.machine.specs.Contract.{ByTables}
 use Rattle.machine.specs.declared.Cur.the-variants.{Empty, Holds}
 use Rattle.machine.specs.declared.Arm.the-variants.{None, Of}
@@ -77,16 +77,19 @@ module _ (g : Graph) (code : List ℕ) (i end h : ℕ) where
   unfolding curOf childOf at
   at-stuck lt in′ e = let e′ = sym e in rw (cut lt in′) (rw (e′, at))
 
-  pub at-short : length code ≤ i → at g h (take (end - i) (drop i code)) ≡ some h
-  unfolding at
-  at-short le = rw (drop-of-length-le code le, take-nil)
-
   pub at-end : end ≤ i → at g h (take (end - i) (drop i code)) ≡ some h
   unfolding at
   at-end le = let d : end - i ≡ 0 = omega arith in rw d
 
-pub at-begin : (g : Graph) (code : List ℕ) (from count h : ℕ) → at g h (take (from + count - from) (drop from code)) ≡ at g h (take count (drop from code))
-at-begin g code from count h = let d : from + count - from ≡ count = omega arith in rw d
+-- where its steps end
+pub end-there : (code : List ℕ) (from count : ℕ) → from + count ≤ length code → StepsEnd code from count (from + count)
+end-there code from count h = let d : from + count - from ≡ count = omega arith in record { there = h; steps = rw d }
+
+pub end-cut : (code : List ℕ) (from count : ℕ) → length code < from + count → StepsEnd code from count (length code)
+end-cut code from count h = record {
+  there = omega arith;
+  steps = take-all (length code - from) (drop from code) (rw length-drop (omega arith)) ∙ sym (take-all count (drop from code) (rw length-drop (omega arith)));
+}
 
 -- the tables
 pub arity-con : (base r : ℕ) (rest : List ℕ) (h : Head) (y : ConNo) → h ≡ Makes y → y .0 < 256 → r ≡ getD rest (base + 768 + y .0) 0 → ByTables base rest (λ p. r ≡ arityOf p (symbolOf h))

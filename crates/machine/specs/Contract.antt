@@ -66,7 +66,7 @@ Roomy (m.ends x) = Unit
 
 -- an instruction's answer is what f says, wherever that has room
 pub record Went (L base : ℕ) (code : List ℕ) (r : Regs) (s s′ : List ℕ) (a : Ran) (f : Program → m.Step Store) : Type 0 where
-  pub is : (p : Program) → Has p base (restOf L s) → p .code ≡ code → Roomy (f p) → ranOf L base code s′ (a .regs) (a .next) ≡ f p
+  pub is : (p : Program) → Has p base (restOf L s) → p .code ≡ code → Roomy (f p) → ranOf L base code s′ (a .regs) (a .goes) (a .stop) ≡ f p
   pub frame : Frame L base s s′ r (a .regs)
 
 -- at most n instructions have room on the pre-term stack

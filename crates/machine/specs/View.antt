@@ -2,11 +2,12 @@
 -- Here, in order: a stack of links; the pre-term stack; the current register; the state; instructions; how an instruction and how code ends.
 -- Not here: the tables (Tables), what functions promise (Contract).
 -- Assumes nothing.
-use Prim.Native.Nat.{ℕ, zero, suc, _+_, _-_}
+use Prim.Native.Nat.{ℕ, zero, suc, _+_, _-_, _≤_}
 use mathlib.Core.List.{List, [], _∷_, reverse}
+use mathlib.Core.Bool.{Bool, true, false}
 use mathlib.Core.Option.{Option, none, some}
 use mathlib.Core.Path.{_≡_}
-use lib.ListN.{getD, getElem?, take, drop}
+use lib.ListN.{length, getD, getElem?, take, drop}
 use Rattle.heap.specs.Graph.{Graph, look, args}
 use Rattle.heap.specs.Store.{Store}
 use Rattle.store.specs.Rows.{symbolOf}
@@ -28,8 +29,6 @@ use Rattle.machine.specs.declared.Op.{Op}
 use Rattle.machine.specs.declared.Op.the-variants.{Load, Branch, Go, Push, Pop, MakeAnon, StoreVar, MakeVar, MakeTerm, Replace, Narrow, Choice, Fail, Wrong}
 use Rattle.machine.specs.declared.Stop.{Stop}
 use Rattle.machine.specs.declared.Stop.the-variants.{Demand, Becomes, Parts, Fails, Misfits, Broken, Full}
-use Rattle.machine.specs.declared.Next.{Next}
-use Rattle.machine.specs.declared.Next.the-variants.{Goes, Ends}
 
 -- the nodes from `top` on along the links, at most n; a link is the next node + 1, and 0 ends it
 unfoldable pub chain : ℕ → List ℕ → ℕ → List ℕ
@@ -54,7 +53,12 @@ preTerms L base s k = termsOf k (drop (base + termsAt) (restOf L s))
 unfoldable pub freeVars : ℕ → ℕ → List ℕ → ℕ → List ℕ
 freeVars L base s k = take k (drop (base + varsAt) (restOf L s))
 
--- the current register
+-- the current register: whether it holds a node, and which
+unfoldable pub curIn : Bool → ℕ → Option ℕ
+curIn true n = some n
+curIn false n = none
+
+-- a node, if there is one
 unfoldable pub curOf : Cur → Option ℕ
 curOf Empty = none
 curOf (Holds n) = some (n .0)
@@ -63,9 +67,14 @@ curOf (Holds n) = some (n .0)
 unfoldable pub childOf : Graph → ℕ → ℕ → Option ℕ
 childOf g h p = getElem? (args (look g h)) (p - 1)
 
+-- the steps that are there of `count` from place `from` on end before place `end`
+pub record StepsEnd (code : List ℕ) (from count end : ℕ) : Type 0 where
+  pub there : end ≤ length code
+  pub steps : take (end - from) (drop from code) ≡ take count (drop from code)
+
 -- the machine's state
 unfoldable pub stateOf : ℕ → ℕ → List ℕ → Regs → List ℕ → m.State Store
-stateOf L base code r s = m.st (drop (r .pc) code) (stackOf L s (r .top)) (curOf (r .cur)) (preTerms L base s (r .terms)) (freeVars L base s (r .vars)) (storeOf L (r .made) s)
+stateOf L base code r s = m.st (drop (r .pc) code) (stackOf L s (r .top)) (curIn (r .holds) (r .cur .0)) (preTerms L base s (r .terms)) (freeVars L base s (r .vars)) (storeOf L (r .made) s)
 
 -- the instruction that an operation at place `at` of the code is
 unfoldable pub opOf : List ℕ → ℕ → Op → c.Instr
@@ -138,6 +147,6 @@ stopOf L base s r Broken = m.broken
 stopOf L base s r Full = m.full
 
 -- how an instruction ended: the code goes on, or ends
-unfoldable pub ranOf : ℕ → ℕ → List ℕ → List ℕ → Regs → Next → m.Step Store
-ranOf L base code s r Goes = m.on (stateOf L base code r s)
-ranOf L base code s r (Ends x) = m.ends (stopOf L base s r x)
+unfoldable pub ranOf : ℕ → ℕ → List ℕ → List ℕ → Regs → Bool → Stop → m.Step Store
+ranOf L base code s r true x = m.on (stateOf L base code r s)
+ranOf L base code s r false x = m.ends (stopOf L base s r x)

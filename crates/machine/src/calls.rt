@@ -1,4 +1,4 @@
-// The code of the call on the stack's top, and of each call that is walked instead; the settled stack.
+// The code of the call on the stack's top; the settled stack.
 use crate::Called;
 use crate::Cur;
 use crate::Ended;
@@ -14,8 +14,8 @@ ghost use Prim.Native.Nat.{ℕ, _+_, _<_, _≤_};
 ghost use lib.ListN.{length};
 ghost use Rattle.store.specs.Regions.{Room};
 ghost use Rattle.machine.specs.Tables.{Space, codeBound};
-ghost use Rattle.machine.specs.View.{calledOf, demandOf};
-ghost use Rattle.machine.specs.Drive.{Topped, Drove, Settled};
+ghost use Rattle.machine.specs.View.{calledOf};
+ghost use Rattle.machine.specs.Drive.{Topped, Settled};
 
 // Which function what is seen calls.
 fn called(k: Seen) -> Called
@@ -29,21 +29,6 @@ fn called(k: Seen) -> Called
     }
 }
 
-// The call that is walked instead.
-fn demanded(stop: Stop) -> Cur
-    ensures { λ r. ⌜ r ≡ demandOf stop ⌝ }
-{
-    match stop {
-        Stop::Demand(h) => Cur::Holds(h),
-        Stop::Becomes(_, _) => Cur::Empty,
-        Stop::Parts(_) => Cur::Empty,
-        Stop::Fails => Cur::Empty,
-        Stop::Misfits => Cur::Empty,
-        Stop::Broken => Cur::Empty,
-        Stop::Full => Cur::Empty,
-    }
-}
-
 // The code of the call on the stack's top, all registers empty.
 pub fn on_top(s: &mut [u8], limit: usize, base: usize, code: &[u8], top: u16, made: usize) -> Ended
     requires { ⌜ Space limit base (now s) ⌝ }
@@ -53,7 +38,8 @@ pub fn on_top(s: &mut [u8], limit: usize, base: usize, code: &[u8], top: u16, ma
     let mut r = Regs {
         pc: 0,
         top: top,
-        cur: Cur::Empty,
+        holds: false,
+        cur: NodeNo(0),
         terms: 0,
         vars: 0,
         made: made,
@@ -75,58 +61,6 @@ pub fn on_top(s: &mut [u8], limit: usize, base: usize, code: &[u8], top: u16, ma
     };
     r.pc = tables::start_of(s, limit, base, f);
     steps::exec(s, limit, base, code, r, code.len())
-}
-
-// The code of the call on the stack's top, and of each call that is walked instead, at most n of them.
-pub fn drive(
-    s: &mut [u8],
-    limit: usize,
-    base: usize,
-    code: &[u8],
-    top: u16,
-    made: usize,
-    n: usize,
-) -> Ended
-    requires { ⌜ Space limit base (now s) ⌝ }
-    requires { ⌜ length (now code) ≤ codeBound ⌝ }
-    ensures { λ r. ⌜ Drove limit base (now (code .entry)) n top made (now (s .entry)) (now (s .exit)) r ⌝ }
-{
-    let mut t = top;
-    let mut k = made;
-    let mut left = n;
-    while left > 0 {
-        let e = on_top(s, limit, base, code, t, k);
-        let regs = e.regs;
-        let stop = e.stop;
-        let next = demanded(stop);
-        let Cur::Holds(h) = next else {
-            return Ended {
-                regs: regs,
-                stop: stop,
-            };
-        };
-        if h.0 as usize >= limit {
-            return Ended {
-                regs: regs,
-                stop: Stop::Broken,
-            };
-        }
-        store::put_link(s, limit, h, t);
-        t = h.0 + 1;
-        k = regs.made;
-        left -= 1;
-    }
-    Ended {
-        regs: Regs {
-            pc: 0,
-            top: t,
-            cur: Cur::Empty,
-            terms: 0,
-            vars: 0,
-            made: k,
-        },
-        stop: Stop::Broken,
-    }
 }
 
 // The stack's top without the constructors and variables there.

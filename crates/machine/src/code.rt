@@ -25,8 +25,8 @@ fn symbol_at(code: &[u8], at: usize) -> Head
     requires { ⌜ at ≤ codeBound ⌝ }
     ensures { λ r. ⌜ SymbolAt (now (code .entry)) at r ⌝ }
 {
-    let kind = byte_at(code, at);
     let y = byte_at(code, at + 1);
+    let kind = byte_at(code, at);
     if kind == 0 {
         return Head::Makes(ConNo(y));
     }
@@ -40,21 +40,21 @@ pub fn decode_at(code: &[u8], pc: usize) -> Op
     ensures { λ r. ⌜ opOf (now (code .entry)) pc r ≡ decode (drop pc (now (code .entry))) ⌝ }
 {
     let k = code[pc];
-    let b = byte_at(code, pc + 1);
     match k {
         0x30 => {
+            let b = byte_at(code, pc + 1);
             if b < 8 {
                 return Op::Load(b);
             }
             Op::Load(8)
         }
-        0x31 => Op::Branch(b),
+        0x31 => Op::Branch(byte_at(code, pc + 1)),
         0x32 => Op::Go,
         0x33 => Op::Push,
         0x34 => Op::Pop,
         0x35 => Op::MakeAnon,
-        0x36 => Op::StoreVar(b),
-        0x37 => Op::MakeVar(b),
+        0x36 => Op::StoreVar(byte_at(code, pc + 1)),
+        0x37 => Op::MakeVar(byte_at(code, pc + 1)),
         0x38 => Op::MakeTerm(symbol_at(code, pc + 1)),
         0x39 => Op::Replace,
         0x3a => Op::Narrow,
@@ -86,15 +86,15 @@ pub fn width_of(op: Op) -> usize
     }
 }
 
-// The place that the j-th GO from `pc` on leads to.
+// The place that the j-th GO from `pc` on leads to. Its last byte is read first: where that is there, so are the others.
 pub fn jump_to(code: &[u8], pc: usize, j: usize) -> usize
     requires { ⌜ (pc ≤ codeBound + 16) × (j ≤ 65536) ⌝ }
     ensures { λ r. ⌜ r ≡ fromFour (drop (5 * j + 1) (drop pc (now (code .entry)))) ⌝ }
 {
     let at = pc + (5 * j + 1);
+    let d = byte_at(code, at + 3) as usize;
     let a = byte_at(code, at) as usize;
     let b = byte_at(code, at + 1) as usize;
     let c = byte_at(code, at + 2) as usize;
-    let d = byte_at(code, at + 3) as usize;
     a + 256 * (b + 256 * (c + 256 * d))
 }

@@ -13,18 +13,19 @@ use book::FunNo;
 use store::Head;
 use store::NodeNo;
 
-// The current register: nothing, or a node.
+// Nothing, or a node.
 pub enum Cur {
     Empty,
     Holds(NodeNo),
 }
 
-// What the machine carries: the place in the code, the stack's top + 1 (0: empty), the current register, how many entries the
-// pre-term stack and the free-variable registers have, and how many nodes are made.
+// What the machine carries: the place in the code, the stack's top + 1 (0: empty), whether there is a current node and which, how
+// many entries the pre-term stack and the free-variable registers have, and how many nodes are made.
 pub struct Regs {
     pub pc: usize,
     pub top: u16,
-    pub cur: Cur,
+    pub holds: bool,
+    pub cur: NodeNo,
     pub terms: usize,
     pub vars: usize,
     pub made: usize,
@@ -60,15 +61,12 @@ pub enum Stop {
     Full,
 }
 
-// How an instruction ends: the code goes on, or ends.
-pub enum Next {
-    Goes,
-    Ends(Stop),
-}
-
+// What an instruction gives: the registers, whether the code goes on, and how it ends if not. A flag and not a case of its own,
+// so that compiled code keeps it out of memory.
 pub struct Ran {
     pub regs: Regs,
-    pub next: Next,
+    pub goes: bool,
+    pub stop: Stop,
 }
 
 pub struct Ended {

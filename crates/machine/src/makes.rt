@@ -1,6 +1,4 @@
 // The instructions that write: PUSH, MAKEANON, STOREVAR, MAKEVAR, MAKETERM. Each is one equation, as in ops.
-use crate::Cur;
-use crate::Next;
 use crate::Ran;
 use crate::Regs;
 use crate::Stop;
@@ -8,9 +6,11 @@ use crate::tables;
 use store::Head;
 use store::NodeNo;
 ghost use mathlib.Core.Path.{_≡_};
-ghost use Prim.Native.Nat.{_+_, _-_, _≤_};
+ghost use Prim.Native.Nat.{_+_, _-_, _<_, _≤_};
 ghost use lib.ListN.{take};
+ghost use Rattle.heap.specs.Graph as g;
 ghost use Rattle.store.specs.Rows.{symbolOf};
+ghost use Rattle.store.specs.Regions.{Did, setNode};
 ghost use Rattle.engine.specs.Code as c;
 ghost use Rattle.machine.specs.Tables.{Space, termBound};
 ghost use Rattle.machine.specs.View.{preTerms, stateOf};
@@ -25,7 +25,8 @@ pub fn push_term(s: &mut [u8], limit: usize, base: usize, code: &[u8], regs: Reg
     if regs.terms >= 320 {
         return Ran {
             regs: regs,
-            next: Next::Ends(Stop::Broken),
+            goes: false,
+            stop: Stop::Broken,
         };
     }
     store::put_rest(s, limit, base + 2696 + regs.terms, n.0);
@@ -33,7 +34,8 @@ pub fn push_term(s: &mut [u8], limit: usize, base: usize, code: &[u8], regs: Reg
     r.terms = regs.terms + 1;
     Ran {
         regs: r,
-        next: Next::Goes,
+        goes: true,
+        stop: Stop::Broken,
     }
 }
 
@@ -43,13 +45,14 @@ pub fn push(s: &mut [u8], limit: usize, base: usize, code: &[u8], regs: Regs) ->
     requires { ⌜ Fine regs ⌝ }
     ensures { λ r. ⌜ Went limit base (now (code .entry)) regs (now (s .entry)) (now (s .exit)) r (λ p. runOn p c.push (stateOf limit base (now (code .entry)) regs (now (s .entry)))) ⌝ }
 {
-    let cur = regs.cur;
-    let Cur::Holds(h) = cur else {
+    if !regs.holds {
         return Ran {
             regs: regs,
-            next: Next::Ends(Stop::Broken),
+            goes: false,
+            stop: Stop::Broken,
         };
-    };
+    }
+    let h = regs.cur;
     push_term(s, limit, base, code, regs, h)
 }
 
@@ -62,7 +65,8 @@ pub fn make_anon(s: &mut [u8], limit: usize, base: usize, code: &[u8], regs: Reg
     if regs.made >= limit {
         return Ran {
             regs: regs,
-            next: Next::Ends(Stop::Full),
+            goes: false,
+            stop: Stop::Full,
         };
     }
     let k = NodeNo(regs.made as u16);
@@ -82,13 +86,15 @@ pub fn store_var(s: &mut [u8], limit: usize, base: usize, code: &[u8], regs: Reg
     if at > regs.vars {
         return Ran {
             regs: regs,
-            next: Next::Ends(Stop::Broken),
+            goes: false,
+            stop: Stop::Broken,
         };
     }
     if regs.made >= limit {
         return Ran {
             regs: regs,
-            next: Next::Ends(Stop::Full),
+            goes: false,
+            stop: Stop::Full,
         };
     }
     store::put_var(s, limit, NodeNo(regs.made as u16));
@@ -100,7 +106,8 @@ pub fn store_var(s: &mut [u8], limit: usize, base: usize, code: &[u8], regs: Reg
     }
     Ran {
         regs: r,
-        next: Next::Goes,
+        goes: true,
+        stop: Stop::Broken,
     }
 }
 
@@ -114,25 +121,35 @@ pub fn make_var(s: &mut [u8], limit: usize, base: usize, code: &[u8], regs: Regs
     if at >= regs.vars {
         return Ran {
             regs: regs,
-            next: Next::Ends(Stop::Broken),
+            goes: false,
+            stop: Stop::Broken,
         };
     }
     let k = store::get_rest(s, limit, base + 2440 + at);
     push_term(s, limit, base, code, regs, NodeNo(k))
 }
 
-// The first `count` terms of the pre-term stack, its top first.
-pub fn top_terms(s: &[u8], limit: usize, base: usize, terms: usize, count: usize) -> [u16; 8]
+// Node k becomes a cell whose arguments are the top of the pre-term stack, the first on top.
+fn lay_cell(
+    s: &mut [u8],
+    limit: usize,
+    base: usize,
+    terms: usize,
+    k: NodeNo,
+    head: Head,
+    count: u16,
+)
     requires { ⌜ Space limit base (now s) ⌝ }
+    requires { ⌜ k .0 < limit ⌝ }
     requires { ⌜ (terms ≤ termBound) × (count ≤ terms) × (count ≤ 8) ⌝ }
-    ensures { λ r. ⌜ take count r ≡ take count (preTerms limit base (now (s .entry)) terms) ⌝ }
+    ensures { λ _. ⌜ Did limit (now (s .entry)) (now (s .exit)) (setNode (k .0) (g.cell (symbolOf head) (take count (preTerms limit base (now (s .entry)) terms)))) ⌝ }
 {
-    let mut args = [0; 8];
+    store::put_head(s, limit, k, head, count);
     for j in 0..count {
-        let at = base + 2696 + (terms - 1 - j);
-        args[j] = store::get_rest(s, limit, at);
+        let at = base + 2696 + (terms - 1 - (j as usize));
+        let v = store::get_rest(s, limit, at);
+        store::put_arg(s, limit, k, j, v);
     }
-    args
 }
 
 // MAKETERM: a cell whose arguments are the top of the pre-term stack, the first on top, goes there in their place.
@@ -153,24 +170,26 @@ pub fn make_term(
     if n > 8 {
         return Ran {
             regs: regs,
-            next: Next::Ends(Stop::Broken),
+            goes: false,
+            stop: Stop::Broken,
         };
     }
     if n > regs.terms {
         return Ran {
             regs: regs,
-            next: Next::Ends(Stop::Broken),
+            goes: false,
+            stop: Stop::Broken,
         };
     }
     if regs.made >= limit {
         return Ran {
             regs: regs,
-            next: Next::Ends(Stop::Full),
+            goes: false,
+            stop: Stop::Full,
         };
     }
-    let args = top_terms(s, limit, base, regs.terms, n);
     let k = NodeNo(regs.made as u16);
-    store::put_cell(s, limit, k, head, args, count);
+    lay_cell(s, limit, base, regs.terms, k, head, count);
     let mut r = regs;
     r.made = regs.made + 1;
     r.terms = regs.terms - n;

@@ -2,7 +2,6 @@
 // definition says of its instruction; `regs.pc` is behind the instruction already. Those that write are in makes.
 use crate::Arm;
 use crate::Cur;
-use crate::Next;
 use crate::Ran;
 use crate::Regs;
 use crate::Stop;
@@ -20,7 +19,7 @@ ghost use Rattle.store.proofs.Laws.{countOf};
 ghost use Rattle.engine.specs.Code as c;
 ghost use Rattle.engine.specs.Machine as m;
 ghost use Rattle.machine.specs.Tables.{Space, codeBound};
-ghost use Rattle.machine.specs.View.{curOf, childOf, stateOf};
+ghost use Rattle.machine.specs.View.{curOf, childOf, StepsEnd, stateOf};
 ghost use Rattle.machine.specs.Contract.{runOn, Fine, Went};
 
 // What stands at a node; beyond the nodes, a variable.
@@ -71,19 +70,28 @@ fn args_of(k: Seen) -> u16
     }
 }
 
+// Where `count` steps from place `from` on end in the code.
+fn steps_end(code: &[u8], from: usize, count: u8) -> usize
+    requires { ⌜ from ≤ codeBound + 16 ⌝ }
+    ensures { λ r. ⌜ StepsEnd (now (code .entry)) from count r ⌝ }
+{
+    let end = from + (count as usize);
+    if end > code.len() {
+        return code.len();
+    }
+    end
+}
+
 // The node at a position under a node: its steps are `count` bytes of the code.
 pub fn walk(s: &[u8], limit: usize, code: &[u8], from: usize, count: u8, n: NodeNo) -> Cur
     requires { ⌜ Room limit (now s) ⌝ }
     requires { ⌜ from ≤ codeBound + 16 ⌝ }
     ensures { λ r. ⌜ curOf r ≡ m.at (graphOf limit (now (s .entry))) (n .0) (take count (drop from (now (code .entry)))) ⌝ }
 {
+    let end = steps_end(code, from, count);
     let mut h = n;
     let mut i = from;
-    let end = from + (count as usize);
     while i < end {
-        if i >= code.len() {
-            return Cur::Holds(h);
-        }
         let k = child(s, limit, h, code[i]);
         let Cur::Holds(next) = k else {
             return Cur::Empty;
@@ -112,26 +120,30 @@ pub fn load(
     if regs.top == 0 {
         return Ran {
             regs: regs,
-            next: Next::Ends(Stop::Broken),
+            goes: false,
+            stop: Stop::Broken,
         };
     }
     let k = walk(s, limit, code, from, count, NodeNo(regs.top - 1));
     let Cur::Holds(h) = k else {
         return Ran {
             regs: regs,
-            next: Next::Ends(Stop::Broken),
+            goes: false,
+            stop: Stop::Broken,
         };
     };
     Ran {
         regs: Regs {
             pc: regs.pc,
             top: regs.top,
-            cur: Cur::Holds(h),
+            holds: true,
+            cur: h,
             terms: regs.terms,
             vars: regs.vars,
             made: regs.made,
         },
-        next: Next::Goes,
+        goes: true,
+        stop: Stop::Broken,
     }
 }
 
@@ -143,19 +155,21 @@ pub fn branch(s: &[u8], limit: usize, base: usize, code: &[u8], regs: Regs, t: u
     requires { ⌜ regs .pc ≤ codeBound + 16 ⌝ }
     ensures { λ r. ⌜ Went limit base (now (code .entry)) regs (now (s .entry)) (now (s .entry)) r (λ p. runOn p (c.branch t) (stateOf limit base (now (code .entry)) regs (now (s .entry)))) ⌝ }
 {
-    let cur = regs.cur;
-    let Cur::Holds(h) = cur else {
+    if !regs.holds {
         return Ran {
             regs: regs,
-            next: Next::Ends(Stop::Broken),
+            goes: false,
+            stop: Stop::Broken,
         };
-    };
+    }
+    let h = regs.cur;
     let at = store::follow(s, limit, h);
     let k = node_at(s, limit, at);
     match k {
         Seen::Call(_, _) => Ran {
             regs: regs,
-            next: Next::Ends(Stop::Demand(at)),
+            goes: false,
+            stop: Stop::Demand(at),
         },
         Seen::Con(y, _) => {
             let a = tables::arm_of(s, limit, base, t, y);
@@ -165,12 +179,14 @@ pub fn branch(s: &[u8], limit: usize, base: usize, code: &[u8], regs: Regs, t: u
                     r.pc = code::jump_to(code, regs.pc, (j as usize) + 1);
                     Ran {
                         regs: r,
-                        next: Next::Goes,
+                        goes: true,
+                        stop: Stop::Broken,
                     }
                 }
                 Arm::None => Ran {
                     regs: regs,
-                    next: Next::Ends(Stop::Misfits),
+                    goes: false,
+                    stop: Stop::Misfits,
                 },
             }
         }
@@ -179,12 +195,14 @@ pub fn branch(s: &[u8], limit: usize, base: usize, code: &[u8], regs: Regs, t: u
             r.pc = code::jump_to(code, regs.pc, 0);
             Ran {
                 regs: r,
-                next: Next::Goes,
+                goes: true,
+                stop: Stop::Broken,
             }
         }
         Seen::Fwd(_) => Ran {
             regs: regs,
-            next: Next::Ends(Stop::Broken),
+            goes: false,
+            stop: Stop::Broken,
         },
     }
 }
@@ -198,7 +216,8 @@ pub fn pop(s: &[u8], limit: usize, base: usize, code: &[u8], regs: Regs) -> Ran
     if regs.terms == 0 {
         return Ran {
             regs: regs,
-            next: Next::Ends(Stop::Broken),
+            goes: false,
+            stop: Stop::Broken,
         };
     }
     let k = store::get_rest(s, limit, base + 2696 + (regs.terms - 1));
@@ -206,12 +225,14 @@ pub fn pop(s: &[u8], limit: usize, base: usize, code: &[u8], regs: Regs) -> Ran
         regs: Regs {
             pc: regs.pc,
             top: regs.top,
-            cur: Cur::Holds(NodeNo(k)),
+            holds: true,
+            cur: NodeNo(k),
             terms: regs.terms - 1,
             vars: regs.vars,
             made: regs.made,
         },
-        next: Next::Goes,
+        goes: true,
+        stop: Stop::Broken,
     }
 }
 
@@ -224,20 +245,23 @@ pub fn replace(s: &[u8], limit: usize, base: usize, code: &[u8], regs: Regs) -> 
     if regs.top == 0 {
         return Ran {
             regs: regs,
-            next: Next::Ends(Stop::Broken),
+            goes: false,
+            stop: Stop::Broken,
         };
     }
-    let cur = regs.cur;
-    let Cur::Holds(h) = cur else {
+    if !regs.holds {
         return Ran {
             regs: regs,
-            next: Next::Ends(Stop::Broken),
+            goes: false,
+            stop: Stop::Broken,
         };
-    };
+    }
+    let h = regs.cur;
     let at = store::follow(s, limit, NodeNo(regs.top - 1));
     Ran {
         regs: regs,
-        next: Next::Ends(Stop::Becomes(at, h)),
+        goes: false,
+        stop: Stop::Becomes(at, h),
     }
 }
 
@@ -247,17 +271,19 @@ pub fn narrow(s: &[u8], limit: usize, base: usize, code: &[u8], regs: Regs) -> R
     requires { ⌜ Fine regs ⌝ }
     ensures { λ r. ⌜ Went limit base (now (code .entry)) regs (now (s .entry)) (now (s .entry)) r (λ p. runOn p c.narrow (stateOf limit base (now (code .entry)) regs (now (s .entry)))) ⌝ }
 {
-    let cur = regs.cur;
-    let Cur::Holds(h) = cur else {
+    if !regs.holds {
         return Ran {
             regs: regs,
-            next: Next::Ends(Stop::Broken),
+            goes: false,
+            stop: Stop::Broken,
         };
-    };
+    }
+    let h = regs.cur;
     let at = store::follow(s, limit, h);
     Ran {
         regs: regs,
-        next: Next::Ends(Stop::Parts(at)),
+        goes: false,
+        stop: Stop::Parts(at),
     }
 }
 
@@ -270,12 +296,14 @@ pub fn choice(s: &[u8], limit: usize, base: usize, code: &[u8], regs: Regs) -> R
     if regs.top == 0 {
         return Ran {
             regs: regs,
-            next: Next::Ends(Stop::Broken),
+            goes: false,
+            stop: Stop::Broken,
         };
     }
     let at = store::follow(s, limit, NodeNo(regs.top - 1));
     Ran {
         regs: regs,
-        next: Next::Ends(Stop::Parts(at)),
+        goes: false,
+        stop: Stop::Parts(at),
     }
 }

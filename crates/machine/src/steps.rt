@@ -1,6 +1,5 @@
 // Code until it ends: one operation, one step, at most n steps.
 use crate::Ended;
-use crate::Next;
 use crate::Op;
 use crate::Ran;
 use crate::Regs;
@@ -35,7 +34,8 @@ pub fn run_op(
         Op::Branch(t) => ops::branch(s, limit, base, code, regs, t),
         Op::Go => Ran {
             regs: regs,
-            next: Next::Ends(Stop::Broken),
+            goes: false,
+            stop: Stop::Broken,
         },
         Op::Push => makes::push(s, limit, base, code, regs),
         Op::Pop => ops::pop(s, limit, base, code, regs),
@@ -48,11 +48,13 @@ pub fn run_op(
         Op::Choice => ops::choice(s, limit, base, code, regs),
         Op::Fail => Ran {
             regs: regs,
-            next: Next::Ends(Stop::Fails),
+            goes: false,
+            stop: Stop::Fails,
         },
         Op::Wrong => Ran {
             regs: regs,
-            next: Next::Ends(Stop::Broken),
+            goes: false,
+            stop: Stop::Broken,
         },
     }
 }
@@ -68,7 +70,8 @@ pub fn step(s: &mut [u8], limit: usize, base: usize, code: &[u8], regs: Regs) ->
     if at >= code.len() {
         return Ran {
             regs: regs,
-            next: Next::Ends(Stop::Broken),
+            goes: false,
+            stop: Stop::Broken,
         };
     }
     let op = code::decode_at(code, at);
@@ -89,11 +92,15 @@ pub fn exec(s: &mut [u8], limit: usize, base: usize, code: &[u8], regs: Regs, n:
     let mut left = n;
     while left > 0 {
         let a = step(s, limit, base, code, r);
-        let next = a.next;
+        let goes = a.goes;
+        let stop = a.stop;
         let q = a.regs;
         r = q;
-        if let Next::Ends(x) = next {
-            return Ended { regs: r, stop: x };
+        if !goes {
+            return Ended {
+                regs: r,
+                stop: stop,
+            };
         }
         left -= 1;
     }

@@ -3,6 +3,7 @@
 -- Not here: the copies for alternatives (crate alternatives), the turn (Front).
 -- Assumes nothing.
 use Prim.Native.Nat.{ℕ, _+_, _≤_, _<_}
+use mathlib.Core.Bool.{false}
 use mathlib.Core.Path.{_≡_}
 use mathlib.Core.List.{List}
 use lib.ListN.{length, getD, take}
@@ -12,7 +13,6 @@ use Rattle.standing.specs.Shared.{finish}
 use Rattle.store.specs.Regions.{graphOf, marksOf, linksOf, restOf, storeOf}
 use Rattle.machine.specs.View.{stopOf}
 use Rattle.machine.specs.declared.Regs.{Regs}
-use Rattle.machine.specs.declared.Cur.the-variants.{Empty}
 use Rattle.machine.specs.declared.Stop.{Stop}
 use Rattle.machine.specs.declared.Stop.the-variants.{Demand, Becomes, Parts, Fails, Misfits, Broken, Full}
 use Rattle.copier.specs.Listed.{Clean}
@@ -30,7 +30,7 @@ pub record Capped (L k r : ℕ) : Type 0 where
 
 -- the registers that an end of the code speaks of
 abbrev pub regsWith : ℕ → ℕ → ℕ → Regs
-regsWith top terms made = record { pc = 0; top = top; cur = Empty; terms = terms; vars = 0; made = made }
+regsWith top terms made = record { pc = 0; top = top; holds = false; cur = record { 0 = 0 }; terms = terms; vars = 0; made = made }
 
 -- a forward's node is one of the store; a node with alternatives has at most 32, and the computation is to be split there
 abbrev pub Stopped : ℕ → ℕ → Held → ℕ → ℕ → List ℕ → Stop → Type 0

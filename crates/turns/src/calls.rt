@@ -103,7 +103,8 @@ pub fn drive(
         regs: Regs {
             pc: 0,
             top: t,
-            cur: Cur::Empty,
+            holds: false,
+            cur: NodeNo(0),
             terms: 0,
             vars: 0,
             made: k,

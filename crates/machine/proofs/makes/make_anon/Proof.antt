@@ -7,8 +7,8 @@ use Rattle.machine.proofs.makes.make_anon.Tie as tie
 returns : tie.Need-returns
 returns c = anon-full _ _ _ _ _ (c .before .before .before .before .pre .1) (c .if1 .taken)
 
-cast-t11 : tie.Need-cast-t11
-cast-t11 c = search needs
+cast-t10 : tie.Need-cast-t10
+cast-t10 c = search needs
 
 put-var-requires : tie.Need-put-var-requires
 put-var-requires c κs = search needs
@@ -28,4 +28,4 @@ returns-2 c = anon-is _ _ _ _ _ (c .before .before .before .before .before .befo
 pub make-anon-spec : {M : Type 1} → statement M
 make-anon-spec =
     tie.close
-    (tie.spec returns cast-t11 put-var-requires add-r push-term-requires same-length returns-2)
+    (tie.spec returns cast-t10 put-var-requires add-r push-term-requires same-length returns-2)

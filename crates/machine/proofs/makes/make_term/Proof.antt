@@ -28,26 +28,23 @@ same-length-3 c = search needs
 returns-3 : tie.Need-returns-3
 returns-3 c = term-full _ _ _ _ _ (c .before .before .before .before .before .before .before .before .before .pre .1) _ _ (c .before .before .before .before .before .arity .ensures) (c .before .before .if2 .left) (c .if3 .taken)
 
-top-terms-requires : tie.Need-top-terms-requires
-top-terms-requires c κs = search needs
+cast-t17 : tie.Need-cast-t17
+cast-t17 c = search needs
 
-cast-t23 : tie.Need-cast-t23
-cast-t23 c = search needs
-
-put-cell-requires : tie.Need-put-cell-requires
-put-cell-requires c κs = search needs
+lay-cell-requires : tie.Need-lay-cell-requires
+lay-cell-requires c κs = search needs
 
 add-r : tie.Need-add-r
-add-r c = omega (arith, c .before .before .before .before .before .before .before .before .if3 .left, c .before .before .before .before .before .before .before .before .before .before .before .before .before .before .before .before .before .pre .0 .0)
+add-r c = omega (arith, c .before .before .before .before .before .before .if3 .left, c .before .before .before .before .before .before .before .before .before .before .before .before .before .before .before .pre .0 .0)
 
 push-term-requires : tie.Need-push-term-requires
-push-term-requires c κs = ((c .before .before .before .before .before .before .before .before .before .before .before .before .before .before .before .before .before .before .before .pre .0 .0, c .before .before .before .before .before .before .before .before .before .before .before .before .before .before .before .before .before .before .before .pre .0 .1, rw (c .before .before .before .before .before .put-cell .ensures .long) (c .before .before .before .before .before .before .before .before .before .before .before .before .before .before .before .before .before .before .before .pre .0 .2)), (omega (arith, c .before .before .before .before .before .before .before .before .before .before .before .before .before .before .before .before .before .before .before .pre .1 .0), c .before .before .before .before .before .before .before .before .before .before .before .before .before .before .before .before .before .before .before .pre .1 .1))
+push-term-requires c κs = let p = c .before .before .before .before .before .before .before .before .before .before .before .before .before .before .before .before .before .pre in ((p .0 .0, p .0 .1, rw (c .before .before .before .before .before .lay-cell .ensures .long) (p .0 .2)), (omega (arith, p .1 .0), p .1 .1))
 
 same-length-4 : tie.Need-same-length-4
 same-length-4 c = search needs
 
 returns-4 : tie.Need-returns-4
-returns-4 c = term-is _ _ _ _ _ (c .before .before .before .before .before .before .before .before .before .before .before .before .before .before .before .before .before .before .before .before .before .before .pre .1) _ _ (c .before .before .before .before .before .before .before .before .before .before .before .before .before .before .before .before .before .before .arity .ensures) _ (c .before .before .before .before .before .before .before .before .before .before .before .before .before .before .before .if2 .left) (c .before .before .before .before .before .before .before .before .before .before .before .before .before .if3 .left) (c .before .before .before .before .before .before .before .before .before .before .before .top-terms .ensures) (c .before .before .before .before .before .before .before .before .put-cell .ensures) (c .before .before .push-term .ensures)
+returns-4 c = term-is _ _ _ _ _ (c .before .before .before .before .before .before .before .before .before .before .before .before .before .before .before .before .before .before .before .before .pre .1) _ _ (c .before .before .before .before .before .before .before .before .before .before .before .before .before .before .before .before .arity .ensures) (c .before .before .before .before .before .before .before .before .before .before .before .before .before .if2 .left) (c .before .before .before .before .before .before .before .before .before .before .before .if3 .left) (c .before .before .before .before .before .before .before .before .lay-cell .ensures) (c .before .before .push-term .ensures)
 
 pub make-term-spec : {M : Type 1} → statement M
 make-term-spec =
@@ -61,9 +58,8 @@ make-term-spec =
     returns-2
     same-length-3
     returns-3
-    top-terms-requires
-    cast-t23
-    put-cell-requires
+    cast-t17
+    lay-cell-requires
     add-r
     push-term-requires
     same-length-4

@@ -7,8 +7,8 @@ use Rattle.machine.proofs.ops.choice.Tie as tie
 returns : tie.Need-returns
 returns c = choice-empty _ _ _ _ _ (c .before .before .before .before .pre .1) (c .if1 .taken)
 
-sub-t10 : tie.Need-sub-t10
-sub-t10 c = search needs
+sub-t9 : tie.Need-sub-t9
+sub-t9 c = search needs
 
 follow-requires : tie.Need-follow-requires
 follow-requires c κs = search needs
@@ -17,4 +17,4 @@ returns-2 : tie.Need-returns-2
 returns-2 c = choice-is _ _ _ _ _ (c .before .before .before .before .before .before .pre .1) _ (omega arith) (c .follow .ensures)
 
 pub choice-spec : {M : Type 1} → statement M
-choice-spec = tie.close (tie.spec returns sub-t10 follow-requires returns-2)
+choice-spec = tie.close (tie.spec returns sub-t9 follow-requires returns-2)

@@ -7,8 +7,8 @@ use Rattle.machine.proofs.ops.load.Tie as tie
 returns : tie.Need-returns
 returns c = load-empty _ _ _ _ _ (c .before .before .before .before .pre .1 .0) _ (c .if1 .taken)
 
-sub-t13 : tie.Need-sub-t13
-sub-t13 c = search needs
+sub-t12 : tie.Need-sub-t12
+sub-t12 c = search needs
 
 walk-requires : tie.Need-walk-requires
 walk-requires c κs = search needs
@@ -27,4 +27,4 @@ returns-3 c = load-found _ _ _ _ _ (c .before .before .before .before .before .b
 
 pub load-spec : {M : Type 1} → statement M
 load-spec =
-    tie.close (tie.spec returns sub-t13 walk-requires enum-known-k enum-told returns-2 returns-3)
+    tie.close (tie.spec returns sub-t12 walk-requires enum-known-k enum-told returns-2 returns-3)

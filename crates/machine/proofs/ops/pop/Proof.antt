@@ -19,8 +19,8 @@ add-get-rest-2 c = search needs
 get-rest-requires : tie.Need-get-rest-requires
 get-rest-requires c κs = search needs
 
-sub-t10 : tie.Need-sub-t10
-sub-t10 c = search needs
+sub-t9 : tie.Need-sub-t9
+sub-t9 c = search needs
 
 returns-2 : tie.Need-returns-2
 returns-2 c = pop-is _ _ _ _ _ (c .before .before .before .before .before .before .before .pre .1) _ (omega arith) (c .before .get-rest .ensures)
@@ -28,4 +28,4 @@ returns-2 c = pop-is _ _ _ _ _ (c .before .before .before .before .before .befor
 pub pop-spec : {M : Type 1} → statement M
 pop-spec =
     tie.close
-    (tie.spec returns add-get-rest sub-get-rest add-get-rest-2 get-rest-requires sub-t10 returns-2)
+    (tie.spec returns add-get-rest sub-get-rest add-get-rest-2 get-rest-requires sub-t9 returns-2)

@@ -1,7 +1,5 @@
-use Rattle.machine.proofs.Execs.{Along, along-start, along-out, along-on, along-ends}
+use Rattle.machine.proofs.Execs.{Along, along-start, along-out, along-on, along-ends, refused, passed}
 use mathlib.Core.Path.{_∙_}
-use Prim.Native.Nat.{_-_}
-use borrow.Author.Needs.{needs}
 use native.Mathlib.Omega.{arith}
 use Rattle.machine.proofs.steps.exec.Statement.{statement}
 use Rattle.machine.proofs.steps.exec.Tie as tie
@@ -18,17 +16,11 @@ loop-holds c = along-start (c .before .before .pre .1 .0)
 step-requires : tie.Need-step-requires Inv-loop μ-loop
 step-requires c κs = ((c .before .before .before .before .before .pre .0 .0, c .before .before .before .before .before .pre .0 .1, rw (c .before .before .loop .inv .frame .kept .long) (c .before .before .before .before .before .pre .0 .2)), (c .before .before .loop .inv .frame .fine, c .before .before .before .before .before .pre .1 .1))
 
-enum-known-next : tie.Need-enum-known-next Inv-loop μ-loop
-enum-known-next c = search needs
-
 same-length : tie.Need-same-length Inv-loop μ-loop
-same-length c = c .before .before .before .before .before .before .step .kept .0 ∙ c .before .before .before .before .before .before .before .before .before .loop .inv .long
+same-length c = c .before .before .before .before .step .kept .0 ∙ c .before .before .before .before .before .before .before .loop .inv .long
 
 returns : tie.Need-returns Inv-loop μ-loop
-returns c = along-ends (c .before .before .before .before .before .before .before .before .before .loop .inv) (omega arith) (c .before .before .before .before .before .before .step .ensures) _ (c .before .next .given .1)
-
-enum-told : tie.Need-enum-told Inv-loop μ-loop
-enum-told c = search needs
+returns c = along-ends (c .before .before .before .before .before .before .before .loop .inv) (omega arith) (c .before .before .before .before .step .ensures) (refused _ (c .if1 .taken))
 
 sub-left : tie.Need-sub-left Inv-loop μ-loop
 sub-left c = omega arith
@@ -37,7 +29,7 @@ loop-less : tie.Need-loop-less Inv-loop μ-loop
 loop-less c = omega arith
 
 loop-again : tie.Need-loop-again Inv-loop μ-loop
-loop-again c = along-on (c .before .before .before .before .before .before .before .before .loop .inv) (omega arith) (c .before .before .before .before .before .step .ensures) (c .enum-told .given .1) (c .before .before .before .before .before .step .kept .0)
+loop-again c = along-on (c .before .before .before .before .before .before .before .loop .inv) (omega arith) (c .before .before .before .before .step .ensures) (passed _ (c .if1 .left)) (c .before .before .before .before .step .kept .0)
 
 same-length-2 : tie.Need-same-length-2 Inv-loop μ-loop
 same-length-2 c = c .before .loop .inv .long
@@ -53,10 +45,8 @@ exec-spec =
     μ-loop
     loop-holds
     step-requires
-    enum-known-next
     same-length
     returns
-    enum-told
     sub-left
     loop-less
     loop-again
