@@ -6,7 +6,7 @@ use native.Mathlib.Omega.{arith}
 use mathlib.Core.Path.{_≡_, refl, sym, ap, _∙_, subst}
 use mathlib.Core.Logic.{_⊎_, inl, inr, _≢_}
 use mathlib.Core.Bool.{true, false}
-use mathlib.Core.List.{List, [], _∷_, reverse, List·Memᴰ, List·Memᴰ·cases-cons}
+use mathlib.Core.List.{List, [], _∷_, reverse, List·Memᴰ, List·Memᴰ·cases-cons, List·Memᴰ·not-nil}
 use lib.ListN.{length, getD, take, drop, length-reverse}
 use Rattle.mem.specs.Words.{words}
 use Rattle.book.specs.Syntax.{Symbol, con, fun}
@@ -38,9 +38,8 @@ use Rattle.copier.specs.Listed.{Clean}
 use Rattle.seek.specs.Path.{Closed, Resumes, CallAt, Later}
 use Rattle.seek.proofs.Survives.{later-rows, later-same, closed-later, resumes-later}
 use Rattle.pool.specs.declared.Held.{Held}
-use Rattle.pool.specs.Ring.{Sized, heldBy, heldIn, rootsOf}
+use Rattle.pool.specs.Ring.{Sized, heldBy, heldIn, rootsOf, SameLinks}
 use Rattle.pool.specs.Ring as p
-use Rattle.pool.proofs.Rings.{held-kept}
 use Rattle.turns.specs.Front.{Space, Standing, Front, toldBy, tookOf, valueIn, Searched, Stays, Dropped}
 use Rattle.turns.specs.Calls.{Calls, HitCall, Driven, StackKept, Begun}
 use Rattle.turns.specs.Ends.{Capped, regsWith, Stopped, Hit, Finished}
@@ -123,10 +122,10 @@ settle-has g (h ∷ N) x f hs e w = go (settle-has g N x f hs e) (look g h) refl
     go ih (fwd k) q (inl u) = let z = call (fwd k) q u in let d : _≡_ {A = ℕ} 0 1 = cc in absurd (omega arith)
     go ih (fwd k) q (inr u) = rw (q, m.settle) (ih u)
 
--- without a stack there is none at any time
-held-none : (L : ℕ) (s s′ : List ℕ) (held : Held) → held .top ≡ 0 → heldIn L s′ held ≡ heldIn L s held
+-- without a top there is no entry
+held-none : (L : ℕ) (s : List ℕ) (held : Held) → held .top ≡ 0 → heldIn L s held .stack ≡ []
 unfolding heldIn p.stackOf p.chain
-held-none L s s′ held e = rw e
+held-none L s held e = rw e
 
 module _ (L base : ℕ) (code : List ℕ) (made : ℕ) (held : Held) (s : List ℕ) (F : Front L base code made held s) where
   abbrev S : Standing L made held s
@@ -281,7 +280,7 @@ module _ (L base : ℕ) (code : List ℕ) (made : ℕ) (held : Held) (s : List �
       turn-rows f y lt = Z .rows f y (let i = made-in in omega arith) ∙ row-kept L base made s₁ s₂ (D .kept) y lt ∙ ap (λ (g : Graph). node g y) (B .graph)
 
       -- the stack that was there: its calls are on the settled one, whose links stay, and links are written of calls only
-      pub turn-stack : ¬ (Dropped L held s) → heldIn L s₃ held ≡ heldIn L s held
+      pub turn-stack : ¬ (Dropped L held s) → SameLinks (linksOf L s) (linksOf L s₃) (c .stack)
       unfolding front-calls
       turn-stack kept = go (B .stack kept)
         where
@@ -303,9 +302,9 @@ module _ (L base : ℕ) (code : List ℕ) (made : ℕ) (held : Held) (s : List �
           at q t y w var a = no-call y q w (other y var a (λ f hs′ z. (let d : _≡_ {A = ℕ} 0 1 = cc in omega arith)))
           at q t y w (fwd k) a = no-call y q w (other y (fwd k) a (λ f hs′ z. (let d : _≡_ {A = ℕ} 0 1 = cc in omega arith)))
 
-          go : StackKept L held s s₁ b → heldIn L s₃ held ≡ heldIn L s held
-          go (inl z) = held-none L s s₃ held z
-          go (inr (q, t)) = held-kept L s s₃ held (λ y w. at q t y w (node (graphOf L s) y) refl)
+          go : StackKept L held s s₁ b → SameLinks (linksOf L s) (linksOf L s₃) (c .stack)
+          go (inl z) = λ y w. absurd (List·Memᴰ·not-nil (subst (List·Memᴰ y) (held-none L s held z) w))
+          go (inr (q, t)) = λ y w. at q t y w (node (graphOf L s) y) refl
 
       pub turn-more : (made ≤ r .made) × (r .made ≤ L)
       turn-more = let i = made-in in let j = Z .more .0 in (omega arith, Z .more .1)
@@ -326,12 +325,12 @@ module _ (L base : ℕ) (code : List ℕ) (made : ℕ) (held : Held) (s : List �
       clean = B .places ∙ clean;
     }
 
-    pub silent-stack : ¬ (Dropped L held s) → heldIn L s₁ held ≡ heldIn L s held
+    pub silent-stack : ¬ (Dropped L held s) → SameLinks (linksOf L s) (linksOf L s₁) (c .stack)
     silent-stack kept = go (B .stack kept)
       where
-        go : StackKept L held s s₁ b → heldIn L s₁ held ≡ heldIn L s held
-        go (inl z) = held-none L s s₁ held z
-        go (inr (q, t)) = held-kept L s s₁ held (λ y w. ap (λ (l : List ℕ). getD l y 0) q)
+        go : StackKept L held s s₁ b → SameLinks (linksOf L s) (linksOf L s₁) (c .stack)
+        go (inl z) = λ y w. absurd (List·Memᴰ·not-nil (subst (List·Memᴰ y) (held-none L s held z) w))
+        go (inr (q, t)) = λ y w. ap (λ (l : List ℕ). getD l y 0) q
 
     pub silent-later : Later made (graphOf L s) made (graphOf L s₁)
     silent-later = subst (Later made (graphOf L s) made) (sym (B .graph)) (later-same made (graphOf L s))

@@ -25,7 +25,7 @@ use Rattle.machine.specs.Tables.{Has}
 use Rattle.copier.specs.Listed.{Clean}
 use Rattle.seek.specs.Path.{ClosedIn, ResumesIn, Later}
 use Rattle.pool.specs.declared.Held.{Held}
-use Rattle.pool.specs.Ring.{heldIn}
+use Rattle.pool.specs.Ring.{heldIn, SameLinks}
 use Rattle.alternatives.specs.Copies.{altsIn}
 use Rattle.turns.specs.declared.What.{What}
 use Rattle.turns.specs.declared.What.the-variants.{Went, Split, Wrote, Failed, Misfit, NoneLeft, Lost}
@@ -102,4 +102,4 @@ pub record TurnTaken (L base : ℕ) (code : List ℕ) (made : ℕ) (held : Held)
   pub finished : (x : ℕ) → getD (marksOf L s) x 0 ≡ 2 → getD (marksOf L s′) x 0 ≡ 2
   pub searched : Searched L made (valueIn held) s′
   pub rows : r .what ≢ Went → (x : ℕ) → x < made → node (graphOf L s′) x ≡ node (graphOf L s) x
-  pub stack : ¬ (Dropped L held s) → heldIn L s′ held ≡ heldIn L s held
+  pub stack : ¬ (Dropped L held s) → SameLinks (linksOf L s) (linksOf L s′) (heldIn L s held .stack)
