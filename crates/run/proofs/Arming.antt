@@ -30,13 +30,13 @@ pub spread-none : (l : e.Limits) (n : ℕ) (st : State) (count made : ℕ) (s : 
 unfolding spreadBy
 spread-none l n st count made s h =
     let t = lt-leb (st .waiting + count) (l .pool) h in
-    record { is = rw t; pool = λ u. absurd (true-not-false (sym u ∙ t)); only = only-none (l .nodes) 0 (20 * l .pool) s }
+    record { is = rw t; pool = λ u. absurd (true-not-false (sym u ∙ t)); only = only-none (l .nodes) 0 (20 * l .pool) s; none = λ u. refl }
 
 pub spread-all : (l : e.Limits) (n : ℕ) (st : State) (count made : ℕ) (s s′ : List ℕ) → st .waiting + count ≤ l .pool → Joined (l .nodes) (l .pool) n (st .head) (st .waiting) count s s′ → Spread l n st count made s s′ (On (afterSplit st count made))
 unfolding spreadBy
 spread-all l n st count made s s′ h j =
     let t = le-leb (st .waiting + count) (l .pool) h in
-    record { is = rw t; pool = λ u. j .is; only = j .only }
+    record { is = rw t; pool = λ u. j .is; only = j .only; none = λ u. absurd (true-not-false (sym t ∙ u)) }
 
 module _ (l : e.Limits) (st : State) (terms s s′ results results′ : List ℕ) (p : Recorded) (P : ResultPut (l .nodes) (l .results) (st .written) (st .turns) terms s s′ results results′ p) where
   pub value-none : p .fits ≡ false → Valued l st terms s s′ results results′ (Ended NoRoom)

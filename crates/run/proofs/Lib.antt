@@ -5,6 +5,7 @@ pub mod Fronts
 pub mod Tabled
 pub mod Nexts
 pub mod Values
+pub mod Halting
 pub mod Searches
 pub mod Demands
 pub mod Stepping

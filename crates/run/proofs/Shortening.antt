@@ -104,7 +104,7 @@ module _ (l : e.Limits) (n : ℕ) (code : List ℕ) (st : State) (s results : Li
 
   -- so a step from there is a step from before
   taken₁ : (s₂ results₂ : List ℕ) (r : Stepped) → StepTaken l n code st s₁ s₂ results results₂ r → StepTaken l n code st s s₂ results results₂ r
-  taken₁ s₂ results₂ r T = record { next = λ R. T .next (runs₁ R); tables = λ R. T .tables (runs₁ R); searched = T .searched; clean = T .clean; bounded = T .bounded; before = T .before; behind = T .behind }
+  taken₁ s₂ results₂ r T = record { next = λ R. T .next (runs₁ R); tables = λ R. T .tables (runs₁ R); searched = T .searched; clean = T .clean; bounded = T .bounded; untaken = λ a p R. T .untaken a p (runs₁ R); before = T .before; behind = T .behind }
 
 -- What is known where the front is about to take its turn: the state is in bounds, runs, and has its front; and a step from there is a step from before.
 pub record Readied (l : e.Limits) (n : ℕ) (code : List ℕ) (st : State) (s results : List ℕ) (held : Held) (s₁ : List ℕ) : Type 0 where

@@ -9,11 +9,13 @@ use Rattle.engine.specs.Machine as m
 use Rattle.engine.specs.Run as e
 use Rattle.agreement.proofs.Calls.{FineBook}
 use Rattle.standing.specs.Shared.{StoreNext, storeEnds, storeNext}
-use Rattle.standing.specs.Moments.{shownNext, storeShownNext, StandsNext, both-end, both-go}
+use Rattle.standing.specs.Moments.{shown, shownNext, storeShown, storeShownNext, StandsNext, both-end, both-go}
 use Rattle.standing.proofs.Moments.{stands-shown}
 use Rattle.run.specs.declared.State.{State}
+use Rattle.run.specs.declared.Answer.{Answer}
 use Rattle.run.specs.declared.Stepped.{Stepped}
-use Rattle.run.specs.Between.{nextOf, Runs, StepTaken}
+use Rattle.run.specs.declared.Stepped.the-variants.{Ended}
+use Rattle.run.specs.Between.{momentOf, nextOf, Runs, Dropped, bare, storeBare, StepTaken}
 
 next-shown : (book : Book) (B : FineBook book) (l : e.Limits) (u : e.Next m.Kept) (v : StoreNext) → StandsNext book B l u v → storeShownNext v ≡ shownNext u
 unfolding shownNext storeShownNext
@@ -24,3 +26,11 @@ next-shown book B l (e.next x) (storeNext y) (both-go S) = ap e.next (stands-sho
 pub step-shows : (l : e.Limits) (n : ℕ) (code : List ℕ) (st : State) (s s′ results results′ : List ℕ) (r : Stepped) → StepTaken l n code st s s′ results results′ r → (R : Runs l n code st s results)
     → storeShownNext (nextOf l n s′ results′ r) ≡ shownNext (e.step (m.turn (compile (R .book))) l (R .moment))
 step-shows l n code st s s′ results results′ r T R = next-shown (R .book) (R .fine) l (e.step (m.turn (compile (R .book))) l (R .moment)) (nextOf l n s′ results′ r) (T .next R)
+
+-- A step that ends the run leaves a state that is shown as its moment was; the front without its stack, if no entry of it is a call any more.
+module _ (l : e.Limits) (n : ℕ) (code : List ℕ) (st : State) (s s′ results results′ : List ℕ) (r : Stepped) (T : StepTaken l n code st s s′ results results′ r) (a : Answer) (p : r ≡ Ended a) (R : Runs l n code st s results) where
+  pub end-shows : ¬ (Dropped (R .moment)) → storeShown (momentOf l n st s′ results′) ≡ shown (R .moment)
+  end-shows d = stands-shown (R .book) (R .fine) l (R .moment) (momentOf l n st s′ results′) (T .untaken a p R .whole d)
+
+  pub end-shows-beside : storeShown (storeBare (momentOf l n st s′ results′)) ≡ shown (bare (R .moment))
+  end-shows-beside = stands-shown (R .book) (R .fine) l (bare (R .moment)) (storeBare (momentOf l n st s′ results′)) (T .untaken a p R .beside)

@@ -16,7 +16,7 @@ use Rattle.engine.specs.Compile.{compile}
 use Rattle.engine.specs.Machine as m
 use Rattle.engine.specs.Run as e
 use Rattle.standing.specs.Moments.{StandsNext}
-use Rattle.store.specs.Regions.{graphOf, restOf}
+use Rattle.store.specs.Regions.{graphOf, linksOf, restOf}
 use Rattle.copier.specs.Listed.{Clean}
 use Rattle.machine.specs.Tables.{Has}
 use Rattle.pool.specs.declared.Held.{Held}
@@ -31,7 +31,7 @@ use Rattle.run.specs.declared.Answer.{Answer}
 use Rattle.run.specs.declared.Answer.the-variants.{Emptied, Spent, NoNodes, NoPlaces, NoRoom}
 use Rattle.run.specs.declared.Stepped.{Stepped}
 use Rattle.run.specs.declared.Stepped.the-variants.{Ended, On}
-use Rattle.run.specs.Between.{nextOf, writtenBy, Bounded, SearchedIn, Runs, StepTaken}
+use Rattle.run.specs.Between.{momentOf, nextOf, writtenBy, Bounded, SearchedIn, Runs, Untaken, StepTaken}
 use Rattle.run.specs.Arms.{afterTurn, afterEnd, afterWent, afterSplit, afterValue, WentOn, Spread, spreadBy, Valued, valueBy}
 use Rattle.run.proofs.Fronts.{H}
 use Rattle.run.proofs.Tabled.{has-taken, has-only}
@@ -39,6 +39,7 @@ use Rattle.run.proofs.Nexts.{Z, went-next, split-next, full-next, never
 use Rattle.run.proofs.Searches.{after-went, after-split, after-end, after-value}
 use Rattle.run.proofs.Demands.{few₀}
 use Rattle.run.proofs.Values.{empty-next, spent-next, value-next}
+use Rattle.run.proofs.Halting.{untaken-same, untaken-turn}
 
 on-same : (a : Answer) (st st′ : State) → _≡_ {A = Stepped} (Ended a) (On st) → ⊥
 on-same a st st′ p = let z : _≡_ {A = ℕ} 0 1 = cc in omega arith
@@ -55,7 +56,7 @@ on-is st st′ p = ap (λ (x : Stepped). state-of x st) p
 module _ (l : e.Limits) (n : ℕ) (code : List ℕ) (st : State) (s results : List ℕ) (b : Bounded l n st s results) (R₀ : Runs l n code st s results) where
   stopped : (a : Answer) → ((R : Runs l n code st s results) → StandsNext (R .book) (R .fine) l (e.step (m.turn (compile (R .book))) l (R .moment)) (nextOf l n s results (Ended a))) → StepTaken l n code st s s results results (Ended a)
   unfolding writtenBy
-  stopped a f = record { next = f; tables = λ R. R .tables; searched = λ st′ p. absurd (on-same a st′ st′ p); clean = R₀ .clean; bounded = λ st′ p. absurd (on-same a st′ st′ p); before = refl; behind = refl }
+  stopped a f = record { next = f; tables = λ R. R .tables; searched = λ st′ p. absurd (on-same a st′ st′ p); clean = R₀ .clean; bounded = λ st′ p. absurd (on-same a st′ st′ p); untaken = λ a′ p R. untaken-same (R .book) (R .fine) l (R .moment) (momentOf l n st s results) (R .stands); before = refl; behind = refl }
 
   pub at-empty : st .waiting ≡ 0 → StepTaken l n code st s s results results (Ended Emptied)
   at-empty w = stopped Emptied (λ R. empty-next l n code st s results b R s results w)
@@ -110,11 +111,11 @@ module _ (l : e.Limits) (n : ℕ) (code : List ℕ) (st : State) (s results : Li
   -- the results stay
   quiet : (st₂ : State) (s₂ : List ℕ) → st₂ .written ≡ st .written → ((R : Runs l n code st s results) → StandsNext (R .book) (R .fine) l (e.step (m.turn (compile (R .book))) l (R .moment)) (nextOf l n s₂ results (On st₂)))
       → ((R : Runs l n code st s results) → Has (compile (R .book)) (20 * l .pool) (restOf (l .nodes) s₂)) → SearchedIn l n st₂ s₂ → Clean (l .nodes) s₂ → Bound st₂ s₂ results → StepTaken l n code st s s₂ results results (On st₂)
-  quiet st₂ s₂ w f t c d B = record { next = f; tables = t; searched = λ st′ p. subst (λ (x : State). SearchedIn l n x s₂) (on-is st₂ st′ p) c; clean = d; bounded = λ st′ p. subst (λ (x : State). Bound x s₂ results) (on-is st₂ st′ p) B; before = refl; behind = refl }
+  quiet st₂ s₂ w f t c d B = record { next = f; tables = t; searched = λ st′ p. subst (λ (x : State). SearchedIn l n x s₂) (on-is st₂ st′ p) c; clean = d; bounded = λ st′ p. subst (λ (x : State). Bound x s₂ results) (on-is st₂ st′ p) B; untaken = λ a p. absurd (on-same a st₂ st₂ (sym p)); before = refl; behind = refl }
 
   halted : (a : Answer) (s₂ results₂ : List ℕ) → results₂ ≡ results → ((R : Runs l n code st s results) → StandsNext (R .book) (R .fine) l (e.step (m.turn (compile (R .book))) l (R .moment)) (nextOf l n s₂ results₂ (Ended a)))
-      → ((R : Runs l n code st s results) → Has (compile (R .book)) (20 * l .pool) (restOf (l .nodes) s₂)) → Clean (l .nodes) s₂ → StepTaken l n code st s s₂ results results₂ (Ended a)
-  halted a s₂ results₂ q f t d = record { next = f; tables = t; searched = λ st′ p. absurd (on-same a st′ st′ p); clean = d; bounded = λ st′ p. absurd (on-same a st′ st′ p); before = ap (take (st .written)) q; behind = ap (drop (writtenBy st (Ended a))) q }
+      → ((R : Runs l n code st s results) → Has (compile (R .book)) (20 * l .pool) (restOf (l .nodes) s₂)) → Clean (l .nodes) s₂ → ((R : Runs l n code st s results) → Untaken (R .book) (R .fine) l (R .moment) (momentOf l n st s₂ results₂)) → StepTaken l n code st s s₂ results results₂ (Ended a)
+  halted a s₂ results₂ q f t d u = record { next = f; tables = t; searched = λ st′ p. absurd (on-same a st′ st′ p); clean = d; bounded = λ st′ p. absurd (on-same a st′ st′ p); untaken = λ a′ p R. u R; before = ap (take (st .written)) q; behind = ap (drop (writtenBy st (Ended a))) q }
 
   module _ (s₂ : List ℕ) (o : RestOnly (l .nodes) 0 (20 * l .pool) s₁ s₂) where
     tables₂ : (R : Runs l n code st s results) → Has (compile (R .book)) (20 * l .pool) (restOf (l .nodes) s₂)
@@ -145,7 +146,8 @@ module _ (l : e.Limits) (n : ℕ) (code : List ℕ) (st : State) (s results : Li
       go false a =
           let f : g ≡ Ended NoPlaces = W .is ∙ rw a in
           subst (StepTaken l n code st s s₂ results results) (sym f)
-          (halted NoPlaces s₂ results refl (λ R. subst (λ (x : Stepped). StandsNext (R .book) (R .fine) l (e.step (m.turn (compile (R .book))) l (R .moment)) (nextOf l n s₂ results x)) f (next₂ R)) (tables₂ s₂ (W .only)) (clean₂ s₂ (W .only)))
+          (halted NoPlaces s₂ results refl (λ R. subst (λ (x : Stepped). StandsNext (R .book) (R .fine) l (e.step (m.turn (compile (R .book))) l (R .moment)) (nextOf l n s₂ results x)) f (next₂ R)) (tables₂ s₂ (W .only)) (clean₂ s₂ (W .only))
+          (λ R. (let j : s₂ ≡ s₁ = W .none a in untaken-turn l n code st s results b some held G under s₁ r X R (λ v. (let z = sym w ∙ v in let d : _≡_ {A = ℕ} 0 1 = cc in omega arith)) s₂ results (ap (graphOf (l .nodes)) j) (ap (linksOf (l .nodes)) j) (ap (restOf (l .nodes)) j) refl)))
       go true a =
           let f : g ≡ On (afterSplit (afterTurn (l .pool) st) count (r .made)) = W .is ∙ rw a in
           let i = leb-true _ _ a in let u = b .written in
@@ -164,6 +166,7 @@ module _ (l : e.Limits) (n : ℕ) (code : List ℕ) (st : State) (s results : Li
 
   pub at-full : r .what ≡ NoneLeft → StepTaken l n code st s s₁ results results (Ended NoNodes)
   at-full w = halted NoNodes s₁ results refl (λ R. full-next l n code st s results b some held G under s₁ r X R w s₁ results) tables₁ (Z₀ R₀ .clean)
+      (λ R. untaken-turn l n code st s results b some held G under s₁ r X R (λ v. (let z = sym w ∙ v in let d : _≡_ {A = ℕ} 0 1 = cc in omega arith)) s₁ results refl refl refl refl)
 
   pub at-lost : r .what ≡ Lost → StepTaken l n code st s s₁ results results (Ended NoNodes)
   at-lost w = absurd (never-lost l n code st s results b some held G under s₁ r X R₀ w)
@@ -185,7 +188,8 @@ module _ (l : e.Limits) (n : ℕ) (code : List ℕ) (st : State) (s results : Li
       go false a =
           let f : g ≡ Ended NoRoom = W .is ∙ rw a in
           subst (StepTaken l n code st s s₂ results results₂) (sym f)
-          (halted NoRoom s₂ results₂ (W .none a) (λ R. subst (λ (x : Stepped). StandsNext (R .book) (R .fine) l (e.step (m.turn (compile (R .book))) l (R .moment)) (nextOf l n s₂ results₂ x)) f (next₂ R)) tables₃ (W .clean))
+          (halted NoRoom s₂ results₂ (W .none a) (λ R. subst (λ (x : Stepped). StandsNext (R .book) (R .fine) l (e.step (m.turn (compile (R .book))) l (R .moment)) (nextOf l n s₂ results₂ x)) f (next₂ R)) tables₃ (W .clean)
+          (λ R. untaken-turn l n code st s results b some held G under s₁ r X R (λ v. (let z = sym w ∙ v in let d : _≡_ {A = ℕ} 0 1 = cc in omega arith)) s₂ results₂ (W .kept .graph) (W .kept .links) (W .kept .rest) (W .none a)))
       go true a =
           let f : g ≡ On (afterValue (afterTurn (l .pool) st) (st .written + length record₁)) = W .is ∙ rw a in
           let i = b .waiting in let u : st .written + length record₁ ≤ l .results = leb-true _ _ a in let j = b .made in let v = b .lent in let k = b .written in
@@ -198,6 +202,7 @@ module _ (l : e.Limits) (n : ℕ) (code : List ℕ) (st : State) (s results : Li
             searched = λ st′ o. subst (λ (x : State). SearchedIn l n x s₂) (on-is (afterValue (afterTurn (l .pool) st) (st .written + length record₁)) st′ o) (after-value l n code st s results b some held G R₀ under s₁ r X (st .written + length record₁) s₂ (W .kept));
             clean = W .clean;
             bounded = λ st′ o. subst (λ (x : State). Bound x s₂ results₂) (on-is (afterValue (afterTurn (l .pool) st) (st .written + length record₁)) st′ o) (bounds _ s₂ results₂ (W .kept .long ∙ long₁) y refl (omega arith) j refl (omega arith) (omega arith) (omega arith) (omega arith) (omega arith) (omega arith) u);
+            untaken = λ a′ o. absurd (on-same a′ (afterValue (afterTurn (l .pool) st) (st .written + length record₁)) st (sym o));
             before = ap (take (st .written)) (W .bytes a ∙ append-assoc (take (st .written) results) record₁ (drop (st .written + length record₁) results)) ∙ take-at (take (st .written) results) (record₁ ++ drop (st .written + length record₁) results) (st .written) p;
             behind = ap (drop (st .written + length record₁)) (W .bytes a) ∙ drop-at (take (st .written) results ++ record₁) (drop (st .written + length record₁) results) (st .written + length record₁) q;
           })

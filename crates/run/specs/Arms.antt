@@ -53,6 +53,7 @@ pub record Spread (l : e.Limits) (n : ℕ) (st : State) (count made : ℕ) (s s�
   pub is : r ≡ spreadBy (leb (st .waiting + count) (l .pool)) st count made
   pub pool : leb (st .waiting + count) (l .pool) ≡ true → poolOf (l .nodes) (l .pool) n (st .head) (st .waiting + count) s′ ≡ poolOf (l .nodes) (l .pool) n (st .head) (st .waiting) s ++ altsIn (l .nodes) (20 * l .pool) n count s
   pub only : RestOnly (l .nodes) 0 (20 * l .pool) s s′
+  pub none : leb (st .waiting + count) (l .pool) ≡ false → s′ ≡ s
 
 -- there is room
 unfoldable pub valueBy : Bool → State → ℕ → Stepped

@@ -1,10 +1,12 @@
 -- A run between its turns, as the code has it; one step; and the run from a state on.
--- Here, in order: the state as a moment of the run on the store; numbers in their bounds; what searches left; what a state stands for; what a step gives; what a run from a state gives.
+-- Here, in order: the state as a moment of the run on the store; numbers in their bounds; what searches left; what a state stands for; a turn that can't be taken; what a step gives; what a
+-- run from a state gives.
 -- Not here: the moments and their steps (engine, Run; standing, Shared), and when they stand for one another (standing, Moments).
 -- Assumes nothing.
 use Prim.Native.Nat.{ℕ, suc, _+_, _*_, _≤_, _<_}
 use mathlib.Core.Path.{_≡_}
-use mathlib.Core.List.{List, List·Memᴰ}
+use mathlib.Core.Logic.{_≢_}
+use mathlib.Core.List.{List, [], _∷_, List·Memᴰ}
 use lib.ListN.{length, take, drop}
 use Rattle.book.specs.Syntax.{Book}
 use Rattle.book.specs.Accepted as A
@@ -20,6 +22,7 @@ use Rattle.seek.specs.Path.{ClosedIn, ResumesIn}
 use Rattle.copier.specs.Listed.{Clean}
 use Rattle.machine.specs.Tables.{Has}
 use Rattle.pool.specs.Ring.{poolOf}
+use Rattle.run.specs.declared.Answer.{Answer}
 use Rattle.run.specs.declared.Limits.{Limits}
 use Rattle.run.specs.declared.State.{State}
 use Rattle.run.specs.declared.Stepped.{Stepped}
@@ -78,20 +81,46 @@ pub record Runs (l : e.Limits) (n : ℕ) (code : List ℕ) (st : State) (s resul
   pub searched : SearchedIn l n st s
   pub clean : Clean (l .nodes) s
 
+-- The front's stack has entries, and none is a call any more. A turn first drops them all and searches the value from where the last search stopped; the search keeps its place in the
+-- links of nodes, also of the value's own, which may be such an entry.
+abbrev pub Dropped : e.Moment m.Kept → Type 0
+Dropped (e.moment [] κ out) = ⊥
+Dropped (e.moment (k ∷ ks) κ out) = (k .stack ≢ []) × (m.settle (k .comp .graph) (k .stack) ≡ [])
+
+-- a moment with the front's stack empty
+unfoldable pub bare : e.Moment m.Kept → e.Moment m.Kept
+bare (e.moment [] κ out) = e.moment [] κ out
+bare (e.moment (k ∷ ks) κ out) = e.moment (m.fromStart (k .comp) ∷ ks) κ out
+
+-- and on the store
+abbrev pub bareHeld : m.Held → m.Held
+bareHeld c = record { value = c .value; askers = c .askers; stack = [] }
+
+unfoldable pub storeBare : StoreMoment → StoreMoment
+storeBare (storeMoment μ [] κ out) = storeMoment μ [] κ out
+storeBare (storeMoment μ (c ∷ cs) κ out) = storeMoment μ (bareHeld c ∷ cs) κ out
+
+-- A turn that can't be taken: what stood for the moment x stands for it still, as y: the same counts and results, every waiting computation in its place, each with its stack; of the front's
+-- stack, if none of its entries is a call any more, nothing is said, and the next turn would not read it.
+pub record Untaken (book : Book) (fine : FineBook book) (l : e.Limits) (x : e.Moment m.Kept) (y : StoreMoment) : Type 0 where
+  pub whole : ¬ (Dropped x) → StandsFor book fine l x y
+  pub beside : StandsFor book fine l (bare x) (storeBare y)
+
 -- how many bytes of results there are after a step
 unfoldable pub writtenBy : State → Stepped → ℕ
 writtenBy st (Ended a) = st .written
 writtenBy st (On st′) = st′ .written
 
 -- One step. For every accepted book and every moment of its definition's run that the state stands for: the step ends the run with the definition's answer, or gives a
--- state that stands for the definition's next moment, node numbers and forwards aside, each computation's stack included. Results written before stand, and bytes beyond
--- those written are as lent.
+-- state that stands for the definition's next moment, node numbers and forwards aside, each computation's stack included. If the step ends the run, the state stands for its
+-- moment still. Results written before stand, and bytes beyond those written are as lent.
 pub record StepTaken (l : e.Limits) (n : ℕ) (code : List ℕ) (st : State) (s s′ results results′ : List ℕ) (r : Stepped) : Type 0 where
   pub next : (R : Runs l n code st s results) → StandsNext (R .book) (R .fine) l (e.step (m.turn (compile (R .book))) l (R .moment)) (nextOf l n s′ results′ r)
   pub tables : (R : Runs l n code st s results) → Has (compile (R .book)) (20 * l .pool) (restOf (l .nodes) s′)
   pub searched : (st′ : State) → r ≡ On st′ → SearchedIn l n st′ s′
   pub clean : Clean (l .nodes) s′
   pub bounded : (st′ : State) → r ≡ On st′ → Bounded l n st′ s′ results′ × (st′ .turns ≡ suc (st .turns)) × (st .written ≤ st′ .written)
+  pub untaken : (a : Answer) → r ≡ Ended a → (R : Runs l n code st s results) → Untaken (R .book) (R .fine) l (R .moment) (momentOf l n st s′ results′)
   pub before : take (st .written) results′ ≡ take (st .written) results
   pub behind : drop (writtenBy st r) results′ ≡ drop (writtenBy st r) results
 

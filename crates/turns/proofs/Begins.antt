@@ -1,17 +1,18 @@
 -- Where a turn begins: the settled stack, or the value's first call.
--- Here, in order: the value's handle; what the search relies on; the settled stack; the first call; none.
+-- Here, in order: the value's handle; what the search relies on; the settled stack; a call on it; the first call; none.
 -- Assumes nothing.
 use Prim.Native.Nat.{ℕ, suc, _+_, _-_, _*_, _≤_, _<_}
 use native.Mathlib.Omega.{arith}
 use native.Mathlib.Numerals.{add-one}
 use mathlib.Core.Path.{_≡_, refl, sym, ap, _∙_, subst}
 use mathlib.Core.Logic.{_⊎_, inl, inr}
-use mathlib.Core.Bool.{true, false}
+use mathlib.Core.Bool.{Bool, true, false}
 use mathlib.Core.Option.{some}
 use mathlib.Core.List.{List, [], _∷_, List·Memᴰ, List·Memᴰ·head, List·Memᴰ·not-nil}
-use lib.Dec.{T}
+use lib.Dec.{T, ltb}
 use lib.ListN.{length, getD}
 use lib.Seq.{getD-set-other, getD-take}
+use borrow.Author.Tests.{ltb-true, ltb-false}
 use Rattle.mem.specs.Words.{words}
 use Rattle.heap.specs.Graph.{Graph, node, look, firstCall, writeEach}
 use Rattle.heap.specs.Store.{Store, take1}
@@ -37,7 +38,7 @@ use Rattle.seek.specs.declared.Find.the-variants.{At, Nothing}
 use Rattle.pool.specs.declared.Held.{Held}
 use Rattle.pool.specs.Ring as p
 use Rattle.pool.specs.Ring.{Sized, heldIn}
-use Rattle.turns.specs.Front.{Standing, toldBy, valueIn, Searched}
+use Rattle.turns.specs.Front.{Standing, toldBy, valueIn, Searched, Dropped}
 use Rattle.turns.specs.Calls.{Stacked, OwnLinks, OwnMarks}
 use Rattle.turns.proofs.Grounds.{stands-ground, searched-same}
 use Rattle.turns.proofs.Climbing.{stacked-settled, stacked-first, stacked-ours}
@@ -93,6 +94,20 @@ module _ (L made : ℕ) (held : Held) (s : List ℕ) where
 
     settled : (t : ℕ) → Settled L s (held .top) t → m.settle (μ .nodes) (c .stack) ≡ stackOf L s t
     settled t q = ap (λ (g : Graph). m.settle g (c .stack)) (nodes-are L made s) ∙ ap (m.settle (graphOf L s)) stack-is ∙ sym (q short)
+
+    -- the stack that is settled, unless it is dropped
+    pub begins-stack : (t : ℕ) → Settled L s (held .top) t → stackOf L s t ≡ m.settle (graphOf L s) (c .stack)
+    begins-stack t q = sym (settled t q) ∙ ap (λ (g : Graph). m.settle g (c .stack)) (nodes-are L made s)
+
+    pub begins-without : (t : ℕ) → t ≤ 0 → Settled L s (held .top) t → ¬ (Dropped L held s) → held .top ≡ 0
+    begins-without t z q kept = go (ltb 0 (held .top)) refl
+      where
+        some-entry : 0 < held .top → c .stack ≡ [] → ⊥
+        some-entry h e = let x = stack-some L s (held .top) h in let l = ap length (sym (x .2) ∙ sym stack-is ∙ e) in omega arith
+
+        go : (b : Bool) → ltb 0 (held .top) ≡ b → held .top ≡ 0
+        go false e = let u = ltb-false 0 (held .top) e in omega arith
+        go true e = absurd (kept (some-entry (ltb-true 0 (held .top) e), sym (begins-stack t q) ∙ ap (stackOf L s) (let u : t ≡ 0 = omega arith in u) ∙ stack-none L s))
 
     -- a call is on the settled stack's top
     pub begins-settled : (t : ℕ) → 0 < t → Settled L s (held .top) t

@@ -6,7 +6,7 @@ use native.Mathlib.Omega.{arith}
 use native.Mathlib.Numerals.{add-one}
 use mathlib.Core.Path.{_≡_, refl, sym, ap, _∙_, subst}
 use mathlib.Core.Logic.{_⊎_, inl, inr}
-use mathlib.Core.List.{List, [], _∷_, List·Memᴰ, List·Memᴰ·head}
+use mathlib.Core.List.{List, [], _∷_, List·Memᴰ, List·Memᴰ·head, List·Memᴰ·tail}
 use lib.ListN.{length, getD, take, drop}
 use lib.Seq.{getD-set-other, getD-take, take-take}
 use Rattle.heap.specs.Build.{upFrom}
@@ -20,6 +20,7 @@ use Rattle.store.specs.declared.NodeNo.{NodeNo}
 use Rattle.store.proofs.Laws.{length-graph}
 use Rattle.alternatives.proofs.Steps.{made-taken, nodes-are}
 use Rattle.machine.specs.Tables.{Space}
+use Rattle.pool.specs.Ring.{SameLinks}
 use Rattle.machine.specs.View.{stackOf, stopOf, demandOf}
 use Rattle.machine.specs.Contract.{Kept}
 use Rattle.machine.specs.Drive.{driveOn, topStop, Topped}
@@ -133,9 +134,10 @@ module _ (L base : ℕ) (code : List ℕ) (n top made : ℕ) (s₀ : List ℕ) w
       pub onward : driveOn n p (stackOf L s₀ top) (storeOf L made s₀) ≡ driveOn left p (stackOf L s t) (storeOf L k s)
       pub stack : Stacked (C .book) (C .graph) (C .value) (C .world) (storeOf L made s₀) (storeOf L k s) (stackOf L s t)
       pub links : CallLinks L made (C .world) s₀ s
+      pub deep : (x : ℕ) → List·Memᴰ x (stackOf L s₀ top) → List·Memᴰ x (stackOf L s t) × (getD (linksOf L s) x 0 ≡ getD (linksOf L s₀) x 0)
 
     pub driving-start : Driving s₀ top made n
-    driving-start = record { onward = refl; stack = C .stack; links = λ x h o. refl }
+    driving-start = record { onward = refl; stack = C .stack; links = λ x h o. refl; deep = λ x w. (w, refl) }
 
     pub driving-over : {s : List ℕ} {t k left : ℕ} → Driving s t k left → (r : Regs) → left ≤ 0 → stopOf L base s r Broken ≡ driveOn n p (stackOf L s₀ top) (storeOf L made s₀)
     unfolding stopOf
@@ -168,6 +170,10 @@ module _ (L base : ℕ) (code : List ℕ) (n top made : ℕ) (s₀ : List ℕ) w
 
       pub driving-links : CallLinks L made (C .world) s₀ s₁
       driving-links x h o = ap (λ (l : List ℕ). getD l x 0) (T .links) ∙ D .links x h o
+
+      -- the entries that were there keep their links
+      pub driving-deep : SameLinks (linksOf L s₀) (linksOf L s₁) (stackOf L s₀ top)
+      driving-deep x w = ap (λ (l : List ℕ). getD l x 0) (T .links) ∙ D .deep x w .1
 
       module _ (room : Space L base s₀) (h : NodeNo) (e : Holds h ≡ demandOf (a .stop)) where
         abbrev N : List ℕ
@@ -223,6 +229,7 @@ module _ (L base : ℕ) (code : List ℕ) (n top made : ℕ) (s₀ : List ℕ) w
             onward = D .onward ∙ ap (λ (j : ℕ). driveOn j p N (storeOf L k s)) q ∙ drive-next p (left - 1) N (storeOf L k s) (h .0 ∷ N) (storeOf L (a .regs .made) s₁) top-is ∙ ap (λ (z : List ℕ). driveOn (left - 1) p z (storeOf L (a .regs .made) s₁)) (sym pushed) ∙ ap (driveOn (left - 1) p (stackOf L s₂ (suc (h .0)))) (sym stored);
             stack = subst (λ (z : Store). Stacked (C .book) (C .graph) (C .value) (C .world) (storeOf L made s₀) z (stackOf L s₂ (suc (h .0)))) (sym stored) (subst (Stacked (C .book) (C .graph) (C .value) (C .world) (storeOf L made s₀) (storeOf L (a .regs .made) s₁)) (sym pushed) stack₁);
             links = λ x i o. ap (λ (z : Memory). getD (z .links) x 0) (d .is) ∙ getD-set-other (linksOf L s₁) (h .0) x t 0 (λ u. apart-from x i o (stack₁ .new (h .0) ours) u) ∙ driving-links x i o;
+            deep = λ x w. (subst (List·Memᴰ x) (sym pushed) (List·Memᴰ·tail (D .deep x w .0)), ap (λ (z : Memory). getD (z .links) x 0) (d .is) ∙ getD-set-other (linksOf L s₁) (h .0) x t 0 (stacked-distinct (C .book) (C .fine) (C .graph) (C .good) (C .value) stack₁ .0 x (D .deep x w .0)) ∙ driving-deep x w);
           })
             where
               q : left ≡ suc (left - 1)

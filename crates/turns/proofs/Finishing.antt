@@ -68,7 +68,7 @@ module _ (L base : ℕ) (held : Held) (made top terms : ℕ) (s : List ℕ) wher
   -- nothing is written
   module _ (x : Stop) (w : What) (t : ℕ) (c : Clean L s) (low : made ≤ L) where
     still : ((s₀ N : List ℕ) → tookOf L base held s₀ s (record { what = w; made = made; top = t }) w ≡ finish (heldBy l N) (stopOf L base s (regsWith top terms made) x)) → Finished L base held made top terms x s s (record { what = w; made = made; top = t })
-    still f = record { is = f; more = (omega arith, low); nodes = λ y h o. refl; marks = refl; links = refl; rest = refl; long = refl; clean = c }
+    still f = record { is = f; more = (omega arith, low); nodes = λ y h o. refl; rows = λ f y h. refl; marks = refl; links = refl; rest = refl; long = refl; clean = c }
 
   pub ends-fails : Clean L s → made ≤ L → Finished L base held made top terms Fails s s (record { what = Failed; made = made; top = 0 })
   unfolding tookOf finish stopOf
@@ -106,6 +106,7 @@ module _ (L base : ℕ) (held : Held) (made top terms : ℕ) (s : List ℕ) wher
       is = λ s₀ N. ap (λ (y : Store). went y (heldIn L s′ (record { roots = held .roots; top = top }))) store-is ∙ ap (went (record { nodes = forward (storeOf L made s .nodes) (h .0) (r .0); free = storeOf L made s .free })) held-is;
       more = (omega arith, low);
       nodes = λ x lt o. ap (λ (y : Memory). node (y .graph) x) (d .is) ∙ getD-set-other (graphOf L s) (h .0) x (fwd (r .0)) var o;
+      rows = λ f. absurd (f refl);
       marks = ap (λ (x : Memory). x .marks) (d .is);
       links = ap (λ (x : Memory). x .links) (d .is);
       rest = ap (λ (x : Memory). take (base + 2440) (x .rest)) (d .is);
@@ -123,6 +124,7 @@ module _ (L base : ℕ) (held : Held) (made top terms : ℕ) (s : List ℕ) wher
       is = f;
       more = P .more;
       nodes = λ x lt o. P .aside .nodes x lt;
+      rows = λ g x lt. P .aside .nodes x lt;
       marks = P .aside .marks;
       links = P .aside .links;
       rest = take-kept (P .aside .rest) (base + 2440) (omega arith);

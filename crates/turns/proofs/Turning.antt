@@ -1,17 +1,19 @@
 -- One turn, put together.
--- Here, in order: how the code ended and what the step relies on; what stays; the turn.
+-- Here, in order: how the code ended and what the step relies on; what stays; calls on a stack; the turn.
 -- Assumes nothing.
 use Prim.Native.Nat.{ℕ, zero, suc, _+_, _-_, _≤_, _<_}
 use native.Mathlib.Omega.{arith}
 use mathlib.Core.Path.{_≡_, refl, sym, ap, _∙_, subst}
-use mathlib.Core.Logic.{_⊎_, inl, inr}
+use mathlib.Core.Logic.{_⊎_, inl, inr, _≢_}
 use mathlib.Core.Bool.{true, false}
-use mathlib.Core.List.{List, [], _∷_, reverse, List·Memᴰ}
+use mathlib.Core.List.{List, [], _∷_, reverse, List·Memᴰ, List·Memᴰ·cases-cons, List·Memᴰ·not-nil}
 use lib.ListN.{length, getD, take, drop, length-reverse}
 use Rattle.mem.specs.Words.{words}
-use Rattle.book.specs.Syntax.{Symbol}
+use Rattle.book.specs.Syntax.{Symbol, con, fun}
 use Rattle.heap.specs.Alike.{Each}
-use Rattle.heap.specs.Graph.{Graph, node, writeEach}
+use Rattle.heap.specs.Graph.{Graph, Node, cell, var, fwd, node, follow, look, writeEach}
+use Rattle.heap.specs.Place.{here}
+use Rattle.heap.proofs.Laws.Alike.{leads-follow}
 use Rattle.heap.specs.Store.{Store, take1}
 use Rattle.engine.specs.Compile.{Program, compile}
 use Rattle.engine.specs.Machine as m
@@ -21,6 +23,7 @@ use Rattle.standing.specs.Stands.{Ours, Reps}
 use Rattle.standing.proofs.Grows.{Stops, stops-becomes}
 use Rattle.standing.proofs.Step.{Tolds, same-stop, turn-alike}
 use Rattle.standing.proofs.Alternatives.{Splits, splits-turn}
+use Rattle.standing.proofs.Stacks.{each-ours}
 use Rattle.store.specs.Regions.{graphOf, marksOf, linksOf, restOf, storeOf}
 use Rattle.store.proofs.Laws.{length-graph}
 use Rattle.alternatives.proofs.Steps.{made-taken, nodes-are}
@@ -35,14 +38,14 @@ use Rattle.copier.specs.Listed.{Clean}
 use Rattle.seek.specs.Path.{Closed, Resumes, CallAt, Later}
 use Rattle.seek.proofs.Survives.{later-rows, later-same, closed-later, resumes-later}
 use Rattle.pool.specs.declared.Held.{Held}
-use Rattle.pool.specs.Ring.{Sized, heldBy, heldIn, rootsOf}
+use Rattle.pool.specs.Ring.{Sized, heldBy, heldIn, rootsOf, SameLinks}
 use Rattle.pool.specs.Ring as p
-use Rattle.turns.specs.Front.{Space, Standing, Front, toldBy, tookOf, valueIn, Searched, Stays}
-use Rattle.turns.specs.Calls.{Calls, HitCall, Driven, Begun}
+use Rattle.turns.specs.Front.{Space, Standing, Front, toldBy, tookOf, valueIn, Searched, Stays, Dropped}
+use Rattle.turns.specs.Calls.{Calls, HitCall, Driven, StackKept, Begun}
 use Rattle.turns.specs.Ends.{Capped, regsWith, Stopped, Hit, Finished}
 use Rattle.turns.specs.declared.Turned.{Turned}
 use Rattle.turns.specs.declared.Began.{Began}
-use Rattle.turns.specs.declared.What.the-variants.{Wrote}
+use Rattle.turns.specs.declared.What.the-variants.{Went, Wrote}
 use Rattle.turns.proofs.Grounds.{ours-made}
 use Rattle.turns.proofs.Driving.{row-kept}
 use Rattle.turns.proofs.Begins.{ground}
@@ -94,6 +97,35 @@ splits-by {Fine} μ c d h ks a b S = record {
   each = S .each;
   whole = S .whole;
 }
+
+-- a call on a stack is on the settled one too
+look-call : (g : Graph) (x f : ℕ) (hs : List ℕ) → node g x ≡ cell (fun f) hs → look g x ≡ cell (fun f) hs
+unfolding look
+look-call g x f hs e =
+    let q : follow g x ≡ x = leads-follow (λ y. Unit) g x (here tt refl (rw e tt)) in
+    ap (node g) q ∙ e
+
+settle-has : (g : Graph) (N : List ℕ) (x f : ℕ) (hs : List ℕ) → node g x ≡ cell (fun f) hs → List·Memᴰ x N → List·Memᴰ x (m.settle g N)
+unfolding m.settle
+settle-has g [] x f hs e w = w
+settle-has g (h ∷ N) x f hs e w = go (settle-has g N x f hs e) (look g h) refl (List·Memᴰ·cases-cons w)
+  where
+    call : (y : Node) → look g h ≡ y → x ≡ h → cell (fun f) hs ≡ y
+    call y q u = sym (look-call g x f hs e) ∙ ap (look g) u ∙ q
+
+    go : (List·Memᴰ x N → List·Memᴰ x (m.settle g N)) → (y : Node) → look g h ≡ y → (x ≡ h) ⊎ List·Memᴰ x N → List·Memᴰ x (m.settle g (h ∷ N))
+    go ih (cell (fun k) ks) q u = rw (q, m.settle) w
+    go ih (cell (con c) ks) q (inl u) = let z = call (cell (con c) ks) q u in let d : _≡_ {A = ℕ} 0 1 = cc in absurd (omega arith)
+    go ih (cell (con c) ks) q (inr u) = rw (q, m.settle) (ih u)
+    go ih var q (inl u) = let z = call var q u in let d : _≡_ {A = ℕ} 0 1 = cc in absurd (omega arith)
+    go ih var q (inr u) = rw (q, m.settle) (ih u)
+    go ih (fwd k) q (inl u) = let z = call (fwd k) q u in let d : _≡_ {A = ℕ} 0 1 = cc in absurd (omega arith)
+    go ih (fwd k) q (inr u) = rw (q, m.settle) (ih u)
+
+-- without a top there is no entry
+held-none : (L : ℕ) (s : List ℕ) (held : Held) → held .top ≡ 0 → heldIn L s held .stack ≡ []
+unfolding heldIn p.stackOf p.chain
+held-none L s held e = rw e
 
 module _ (L base : ℕ) (code : List ℕ) (made : ℕ) (held : Held) (s : List ℕ) (F : Front L base code made held s) where
   abbrev S : Standing L made held s
@@ -243,6 +275,37 @@ module _ (L base : ℕ) (code : List ℕ) (made : ℕ) (held : Held) (s : List �
         clean = Z .clean;
       }
 
+      -- no node that was made is changed, unless the computation goes on
+      pub turn-rows : r .what ≢ Went → (y : ℕ) → y < made → node (graphOf L s₃) y ≡ node (graphOf L s) y
+      turn-rows f y lt = Z .rows f y (let i = made-in in omega arith) ∙ row-kept L base made s₁ s₂ (D .kept) y lt ∙ ap (λ (g : Graph). node g y) (B .graph)
+
+      -- the stack that was there: its calls are on the settled one, whose links stay, and links are written of calls only
+      pub turn-stack : ¬ (Dropped L held s) → SameLinks (linksOf L s) (linksOf L s₃) (c .stack)
+      unfolding front-calls
+      turn-stack kept = go (B .stack kept)
+        where
+          C : Calls L base code (b .top) made s₁
+          C = front-calls s₁ b B e
+
+          links₃ : (y : ℕ) → getD (linksOf L s₃) y 0 ≡ getD (linksOf L s₂) y 0
+          links₃ y = ap (λ (l : List ℕ). getD l y 0) (Z .links)
+
+          no-call : (y : ℕ) → linksOf L s₁ ≡ linksOf L s → List·Memᴰ y (c .stack) → ¬ (CallAt (graphOf L s) y) → getD (linksOf L s₃) y 0 ≡ getD (linksOf L s) y 0
+          no-call y q w o = links₃ y ∙ D .links (front-calls s₁ b B e) y (ours-made L made s (S .stands) y (each-ours (S .stands .holds) (S .kept .stack) (c .stack) (S .stands .helds .stack) y w)) (λ u. o (subst (λ (g : Graph). CallAt g y) (B .graph) (u .1))) ∙ ap (λ (l : List ℕ). getD l y 0) q
+
+          other : (y : ℕ) (x : Node) → node (graphOf L s) y ≡ x → ((f : ℕ) (hs : List ℕ) → x ≡ cell (fun f) hs → ⊥) → ¬ (CallAt (graphOf L s) y)
+          other y x a f u = f (u .0) (u .1) (sym a ∙ u .2)
+
+          at : (q : linksOf L s₁ ≡ linksOf L s) (t : stackOf L s₁ (b .top) ≡ m.settle (graphOf L s) (c .stack)) (y : ℕ) → List·Memᴰ y (c .stack) → (x : Node) → node (graphOf L s) y ≡ x → getD (linksOf L s₃) y 0 ≡ getD (linksOf L s) y 0
+          at q t y w (cell (fun f) hs) a = links₃ y ∙ D .deep C y (subst (List·Memᴰ y) (sym t) (settle-has (graphOf L s) (c .stack) y f hs a w)) ∙ ap (λ (l : List ℕ). getD l y 0) q
+          at q t y w (cell (con k) hs) a = no-call y q w (other y (cell (con k) hs) a (λ f hs′ z. (let d : _≡_ {A = ℕ} 0 1 = cc in omega arith)))
+          at q t y w var a = no-call y q w (other y var a (λ f hs′ z. (let d : _≡_ {A = ℕ} 0 1 = cc in omega arith)))
+          at q t y w (fwd k) a = no-call y q w (other y (fwd k) a (λ f hs′ z. (let d : _≡_ {A = ℕ} 0 1 = cc in omega arith)))
+
+          go : StackKept L held s s₁ b → SameLinks (linksOf L s) (linksOf L s₃) (c .stack)
+          go (inl z) = λ y w. absurd (List·Memᴰ·not-nil (subst (List·Memᴰ y) (held-none L s held z) w))
+          go (inr (q, t)) = λ y w. at q t y w (node (graphOf L s) y) refl
+
       pub turn-more : (made ≤ r .made) × (r .made ≤ L)
       turn-more = let i = made-in in let j = Z .more .0 in (omega arith, Z .more .1)
 
@@ -261,6 +324,13 @@ module _ (L base : ℕ) (code : List ℕ) (made : ℕ) (held : Held) (s : List �
       marks = B .marks S;
       clean = B .places ∙ clean;
     }
+
+    pub silent-stack : ¬ (Dropped L held s) → SameLinks (linksOf L s) (linksOf L s₁) (c .stack)
+    silent-stack kept = go (B .stack kept)
+      where
+        go : StackKept L held s s₁ b → SameLinks (linksOf L s) (linksOf L s₁) (c .stack)
+        go (inl z) = λ y w. absurd (List·Memᴰ·not-nil (subst (List·Memᴰ y) (held-none L s held z) w))
+        go (inr (q, t)) = λ y w. ap (λ (l : List ℕ). getD l y 0) q
 
     pub silent-later : Later made (graphOf L s) made (graphOf L s₁)
     silent-later = subst (Later made (graphOf L s) made) (sym (B .graph)) (later-same made (graphOf L s))

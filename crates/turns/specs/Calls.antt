@@ -1,5 +1,5 @@
 -- The stack within a turn, and what is promised of the calls that are walked.
--- Here, in order: a stack that climbs; the calls; links and marks that stay; what becomes a forward; what the calls come to; where a turn begins.
+-- Here, in order: a stack that climbs; the calls; links and marks that stay; what becomes a forward; what the calls come to; the stack at the turn's begin; where a turn begins.
 -- Not here: the turn (Front).
 -- Assumes nothing.
 use Prim.Native.Nat.{ℕ, _≤_, _<_}
@@ -32,8 +32,8 @@ use Rattle.machine.specs.declared.Stop.{Stop}
 use Rattle.machine.specs.declared.Stop.the-variants.{Demand, Becomes, Parts, Fails, Misfits, Broken, Full}
 use Rattle.seek.specs.Path.{CallAt}
 use Rattle.pool.specs.declared.Held.{Held}
-use Rattle.pool.specs.Ring.{heldIn}
-use Rattle.turns.specs.Front.{Standing, toldBy, valueIn, Searched}
+use Rattle.pool.specs.Ring.{heldIn, SameLinks}
+use Rattle.turns.specs.Front.{Standing, toldBy, valueIn, Searched, Dropped}
 use Rattle.turns.specs.declared.Began.{Began}
 
 -- the stack N, its top a call, stands for a chain in the computation's own graph; its numbers are those of the world w₀, or were free in μ₀
@@ -88,9 +88,14 @@ pub record Driven (L base : ℕ) (code : List ℕ) (n top made : ℕ) (s s′ : 
   pub is : (C : Calls L base code top made s) → stopOf L base s′ (a .regs) (a .stop) ≡ driveOn n (compile (C .book)) (stackOf L s top) (storeOf L made s)
   pub links : (C : Calls L base code top made s) → CallLinks L made (C .world) s s′
   pub hit : (C : Calls L base code top made s) → HitCall L s′ (a .stop)
+  pub deep : Calls L base code top made s → SameLinks (linksOf L s) (linksOf L s′) (stackOf L s top)
   pub kept : Kept L base made s s′
   pub more : made ≤ a .regs .made
   pub fine : Fine (a .regs)
+
+-- there is no stack, or it is settled and no link is written
+abbrev pub StackKept : ℕ → Held → List ℕ → List ℕ → Began → Type 0
+StackKept L held s s′ r = (held .top ≡ 0) ⊎ ((linksOf L s′ ≡ linksOf L s) × (stackOf L s′ (r .top) ≡ m.settle (graphOf L s) (heldIn L s held .stack)))
 
 -- where a turn begins: at a call on the stack's top, or there is none
 pub record Begun (L made : ℕ) (held : Held) (s s′ : List ℕ) (r : Began) : Type 0 where
@@ -104,4 +109,5 @@ pub record Begun (L made : ℕ) (held : Held) (s s′ : List ℕ) (r : Began) : 
   pub marks : (S : Standing L made held s) → OwnMarks L made (S .stands .world) s s′
   pub finished : (x : ℕ) → getD (marksOf L s) x 0 ≡ 2 → getD (marksOf L s′) x 0 ≡ 2
   pub searched : Searched L made (valueIn held) s′
+  pub stack : ¬ (Dropped L held s) → StackKept L held s s′ r
   pub long : length (words s′) ≡ length (words s)

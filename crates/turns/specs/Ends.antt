@@ -5,6 +5,7 @@
 use Prim.Native.Nat.{ℕ, _+_, _≤_, _<_}
 use mathlib.Core.Bool.{false}
 use mathlib.Core.Path.{_≡_}
+use mathlib.Core.Logic.{_≢_}
 use mathlib.Core.List.{List}
 use lib.ListN.{length, getD, take}
 use Rattle.mem.specs.Words.{words}
@@ -21,6 +22,7 @@ use Rattle.pool.specs.Ring.{heldBy, rootsOf}
 use Rattle.alternatives.specs.Copies.{Divides, termsIn}
 use Rattle.turns.specs.Front.{tookOf}
 use Rattle.turns.specs.declared.Turned.{Turned}
+use Rattle.turns.specs.declared.What.the-variants.{Went}
 
 -- k nodes are made, or all of L if k is above it
 pub record Capped (L k r : ℕ) : Type 0 where
@@ -57,6 +59,7 @@ pub record Finished (L base : ℕ) (held : Held) (made top terms : ℕ) (stop : 
   pub is : (s₀ N : List ℕ) → tookOf L base held s₀ s′ r (r .what) ≡ finish (heldBy (rootsOf (held .roots)) N) (stopOf L base s (regsWith top terms made) stop)
   pub more : (made ≤ r .made) × (r .made ≤ L)
   pub nodes : (x : ℕ) → x < made → ¬ (Hit stop x) → node (graphOf L s′) x ≡ node (graphOf L s) x
+  pub rows : r .what ≢ Went → (x : ℕ) → x < made → node (graphOf L s′) x ≡ node (graphOf L s) x
   pub marks : marksOf L s′ ≡ marksOf L s
   pub links : linksOf L s′ ≡ linksOf L s
   pub rest : take (base + 2440) (restOf L s′) ≡ take (base + 2440) (restOf L s)

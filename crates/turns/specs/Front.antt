@@ -1,10 +1,12 @@
 -- What a turn on the store is given, and what it gives.
--- Here, in order: room; a computation of the definition that stands in the store; the front of the pool; what searches leave; the answer as the model gives it; what stays; the turn.
+-- Here, in order: room; a computation of the definition that stands in the store; the front of the pool; what searches leave; the answer as the model gives it; what stays; a stack
+-- that is dropped; the turn.
 -- Not here: the calls of a turn (Calls), the model (standing, Shared).
 -- Assumes nothing.
 use Prim.Native.Nat.{ℕ, _+_, _*_, _≤_, _<_}
 use mathlib.Core.Path.{_≡_}
-use mathlib.Core.List.{List, _∷_}
+use mathlib.Core.Logic.{_≢_}
+use mathlib.Core.List.{List, [], _∷_}
 use lib.ListN.{length, getD, take}
 use Rattle.mem.specs.Words.{words}
 use Rattle.book.specs.Syntax.{Book}
@@ -23,7 +25,7 @@ use Rattle.machine.specs.Tables.{Has}
 use Rattle.copier.specs.Listed.{Clean}
 use Rattle.seek.specs.Path.{ClosedIn, ResumesIn, Later}
 use Rattle.pool.specs.declared.Held.{Held}
-use Rattle.pool.specs.Ring.{heldIn}
+use Rattle.pool.specs.Ring.{heldIn, SameLinks}
 use Rattle.alternatives.specs.Copies.{altsIn}
 use Rattle.turns.specs.declared.What.{What}
 use Rattle.turns.specs.declared.What.the-variants.{Went, Split, Wrote, Failed, Misfit, NoneLeft, Lost}
@@ -85,7 +87,12 @@ pub record Stays (L base made : ℕ) (own : ℕ → Type 0) (s s′ : List ℕ) 
   pub marks : (x : ℕ) → x < made → ¬ (own x) → getD (marksOf L s′) x 0 ≡ getD (marksOf L s) x 0
   pub clean : Clean L s′
 
--- the turn that was taken; only calls of what was made are changed, and finished nodes stay finished
+-- the stack has entries, and none is a call any more: the turn drops them all and searches the value, and the search keeps its place in links, which may be theirs
+abbrev pub Dropped : ℕ → Held → List ℕ → Type 0
+Dropped L held s = (heldIn L s held .stack ≢ []) × (m.settle (graphOf L s) (heldIn L s held .stack) ≡ [])
+
+-- the turn that was taken; only calls of what was made are changed, and finished nodes stay finished; unless the computation goes on, no node that was made is changed; the
+-- stack that was there, unless it is dropped, is still there
 pub record TurnTaken (L base : ℕ) (code : List ℕ) (made : ℕ) (held : Held) (s s′ : List ℕ) (r : Turned) : Type 0 where
   pub is : (F : Front L base code made held s) → tookOf L base held s s′ r (r .what) ≡ storeTurn L (compile (F .standing .book)) (storeOf L made s) (heldIn L s held)
   pub stays : (F : Front L base code made held s) → Stays L base made (Ours (F .standing .stands .world)) s s′
@@ -94,3 +101,5 @@ pub record TurnTaken (L base : ℕ) (code : List ℕ) (made : ℕ) (held : Held)
   pub later : Later made (graphOf L s) made (graphOf L s′)
   pub finished : (x : ℕ) → getD (marksOf L s) x 0 ≡ 2 → getD (marksOf L s′) x 0 ≡ 2
   pub searched : Searched L made (valueIn held) s′
+  pub rows : r .what ≢ Went → (x : ℕ) → x < made → node (graphOf L s′) x ≡ node (graphOf L s) x
+  pub stack : ¬ (Dropped L held s) → SameLinks (linksOf L s) (linksOf L s′) (heldIn L s held .stack)

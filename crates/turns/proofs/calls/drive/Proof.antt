@@ -5,7 +5,7 @@ use mathlib.Core.Path.{_≡_, refl, ap, sym, _∙_}
 use lib.ListN.{length}
 use Rattle.machine.specs.Contract.{Kept}
 use Rattle.turns.specs.Calls.{Calls}
-use Rattle.turns.proofs.Driving.{Driving, driving-start, driving-ends, driving-hit, driving-links, driving-inside, driving-next, driving-kept, driving-over, kept-none, kept-then}
+use Rattle.turns.proofs.Driving.{Driving, driving-start, driving-ends, driving-hit, driving-links, driving-deep, driving-inside, driving-next, driving-kept, driving-over, kept-none, kept-then}
 use Rattle.turns.proofs.calls.drive.Statement.{statement}
 use Rattle.turns.proofs.calls.drive.Tie as tie
 
@@ -34,7 +34,7 @@ same-length : tie.Need-same-length Inv-loop μ-loop
 same-length c = search needs
 
 returns : tie.Need-returns Inv-loop μ-loop
-returns c = let i = c .before .before .before .before .before .before .before .before .before .loop .inv in let T = c .before .before .before .before .before .before .on-top .ensures in record { is = λ C. driving-ends _ _ _ _ _ _ _ C (i .0 C) (i .1) (i .2) T (c .before .before .before .before .before .before .before .before .loop-test .taken) (sym (c .enum-told .given .1) ∙ c .before .before .demanded .ensures); links = λ C. driving-links _ _ _ _ _ _ _ C (i .0 C) (i .1) (i .2) T; hit = λ C. driving-hit _ _ _ _ _ _ _ C (i .0 C) (i .1) (i .2) T; kept = kept-then (i .2) (i .1) (T .kept); more = omega (arith, i .2, T .made); fine = T .fine }
+returns c = let i = c .before .before .before .before .before .before .before .before .before .loop .inv in let T = c .before .before .before .before .before .before .on-top .ensures in record { is = λ C. driving-ends _ _ _ _ _ _ _ C (i .0 C) (i .1) (i .2) T (c .before .before .before .before .before .before .before .before .loop-test .taken) (sym (c .enum-told .given .1) ∙ c .before .before .demanded .ensures); links = λ C. driving-links _ _ _ _ _ _ _ C (i .0 C) (i .1) (i .2) T; hit = λ C. driving-hit _ _ _ _ _ _ _ C (i .0 C) (i .1) (i .2) T; deep = λ C. driving-deep _ _ _ _ _ _ _ C (i .0 C) (i .1) (i .2) T; kept = kept-then (i .2) (i .1) (T .kept); more = omega (arith, i .2, T .made); fine = T .fine }
 
 put-link-requires : tie.Need-put-link-requires Inv-loop μ-loop
 put-link-requires c κs = let p = c .before .before .before .before .before .before .before .before .before .before .before .before .before .before .pre in let i = c .before .before .before .before .before .before .before .before .before .before .before .loop .inv in let T = c .before .before .before .before .before .before .before .before .on-top .ensures in ((p .0 .0, omega (arith, i .1 .long, T .kept .long)), driving-inside _ _ _ _ _ _ _ (p .1 .1) (i .0 (p .1 .1)) (i .1) (i .2) T (p .0) _ (sym (c .before .before .next .given .1) ∙ c .before .before .before .before .demanded .ensures))
@@ -55,7 +55,7 @@ same-length-2 : tie.Need-same-length-2 Inv-loop μ-loop
 same-length-2 c = search needs
 
 returns-2 : tie.Need-returns-2 Inv-loop μ-loop
-returns-2 c = let i = c .before .loop .inv in record { is = λ C. driving-over _ _ _ _ _ _ _ C (i .0 C) _ (c .loop-test .left); links = λ C. i .0 C .links; hit = λ C. tt; kept = i .1; more = i .2; fine = (omega arith, omega arith) }
+returns-2 c = let i = c .before .loop .inv in record { is = λ C. driving-over _ _ _ _ _ _ _ C (i .0 C) _ (c .loop-test .left); links = λ C. i .0 C .links; hit = λ C. tt; deep = λ C x w. i .0 C .deep x w .1; kept = i .1; more = i .2; fine = (omega arith, omega arith) }
 
 pub drive-spec : {M : Type 1} → statement M
 drive-spec =
