@@ -219,5 +219,6 @@ case-ran l b q p r a {work} {work′} {code} {code′} {results} {results′} h 
     record {
       ran = λ more rest K. record {
         is = subst⁻¹ (λ (o : e.Outcome). Gives o (answered a r) work work′ code code′ results results′) (machine-settled _ _ b more q rest p K) (gives-settled (found p) _ r a h (R .is));
+        workBeyond = R .workBeyond;
       };
     }

@@ -1,5 +1,6 @@
 -- The whole run: what is given is what the machine's definition gives.
--- Here, in order: lent memory that nothing was written into; the refusals, in their order; what the limits say; the question asked; the outcome of a run that is not refused.
+-- Here, in order: lent memory that nothing was written into; the refusals, in their order; what the limits say; the question asked; the outcome of a run that is not refused;
+-- the part of work memory that is asked.
 -- Assumes nothing.
 use Prim.Native.Nat.{ℕ, _+_, _≤_}
 use native.Mathlib.Omega.{arith}
@@ -7,7 +8,7 @@ use mathlib.Core.Path.{_≡_, refl, ap, sym, _∙_, subst}
 use mathlib.Core.Bool.{Bool, true, false, _&&_}
 use mathlib.Core.List.{List, [], _∷_, _++_}
 use lib.ListN.{length, take, drop, take-append-drop, length-append}
-use lib.Seq.{length-take-le, take-at}
+use lib.Seq.{length-take-le, take-at, drop-at}
 use lib.Dec.{leb}
 use borrow.Author.Tests.{le-leb, lt-leb}
 use Rattle.mem.specs.Words.{words}
@@ -40,7 +41,7 @@ use Rattle.run.specs.Questions.{Roomy, Asks, AskDone}
 use Rattle.run.specs.Setting.{Lends, SetUp, OverRoom, settingIs}
 use Rattle.run.specs.Passed.{Passed, refusedBy, givenBy}
 use Rattle.run.proofs.Only.{gives-told}
-use Rattle.run.proofs.Ranges.{InRange, LentFits, both, range-facts, lent-facts}
+use Rattle.run.proofs.Ranges.{InRange, LentFits, size-is, both, range-facts, lent-facts, lent-yes, fit-second}
 
 -- a refusal: every count 0, and nothing was written into any lent memory
 pub gives-refused : (a : Answer) (o : e.Outcome) (r : Outcome) (work work′ code code′ results : List ℕ) → o ≡ e.refused (answerIs a) → r ≡ refusedBy a → work′ ≡ work → code′ ≡ code → Gives o r work work′ code code′ results results
@@ -100,7 +101,7 @@ module _ (l : Limits) (b q work code results : List ℕ) where
   unfolding e.machine e.checked answerIs
   ran-limits r f t u p =
       let z : (e.inRange (limitsOf l) && e.lentFits (limitsOf l) m₀) ≡ false = sym t ∙ u in
-      record { is = gives-refused BadLimits (e.machine (limitsOf l) m₀ b q) r work work code code results (rw (z, e.checked)) p refl refl }
+      record { is = gives-refused BadLimits (e.machine (limitsOf l) m₀ b q) r work work code code results (rw (z, e.checked)) p refl refl; workBeyond = refl }
 
   module _ (f : Bool) (t : f ≡ (e.inRange (limitsOf l) && e.lentFits (limitsOf l) m₀)) (u : f ≡ true) where
     fits : (e.inRange (limitsOf l) && e.lentFits (limitsOf l) m₀) ≡ true
@@ -111,14 +112,14 @@ module _ (l : Limits) (b q work code results : List ℕ) where
     unfolding e.machine e.checked answerIs
     ran-book r v w p x y z =
         let k : OnBook b w p = subst (Says b q) (sym x ∙ y) (says b q) in
-        record { is = gives-refused (BadBook w p) (e.machine (limitsOf l) m₀ b q) r work work code code results (rw (fits, k .is, e.checked)) z refl refl }
+        record { is = gives-refused (BadBook w p) (e.machine (limitsOf l) m₀ b q) r work work code code results (rw (fits, k .is, e.checked)) z refl refl; workBeyond = refl }
 
     -- the question
     pub ran-question : (r : Outcome) (v : Verdict) (w : Sort) (p : ℕ) → v ≡ checkQuestion b q → v ≡ QuestionFault w p → r ≡ refusedBy (BadQuestion w p) → Ran l b q r work work code code results results
     unfolding e.machine e.checked answerIs
     ran-question r v w p x y z =
         let k : OnQuestion b q w p = subst (Says b q) (sym x ∙ y) (says b q) in
-        record { is = gives-refused (BadQuestion w p) (e.machine (limitsOf l) m₀ b q) r work work code code results (rw (fits, k .is, k .at-fault, e.checked)) z refl refl }
+        record { is = gives-refused (BadQuestion w p) (e.machine (limitsOf l) m₀ b q) r work work code code results (rw (fits, k .is, k .at-fault, e.checked)) z refl refl; workBeyond = refl }
 
     pub all-passed : (v : Verdict) → v ≡ checkQuestion b q → v ≡ Accepted → Passed l b q work code results
     all-passed v x y = record { limits = fits; verdict = sym x ∙ y }
@@ -159,7 +160,7 @@ module _ (l : Limits) (b q work code results : List ℕ) (P : Passed l b q work 
   lent = lent-facts (limitsOf l) m₁ (both (e.inRange (limitsOf l)) (e.lentFits (limitsOf l) m₁) (P .limits) .1)
 
   all-room : (s : List ℕ) → length (words s) ≡ length (words work) → AllRoom (l .nodes) (l .pool) s
-  all-room s z = let w = length-words work in let n = range .nodes in let p = range .pool in let y = lent .work in (omega arith, omega arith, omega arith)
+  all-room s k = let w = length-words work in let n = range .nodes in let p = range .pool in let y = lent .work in let z = size-is (limitsOf l) in (omega arith, omega arith, omega arith)
 
   pub lends : Lends (limitsOf l) work code
   lends = record { nodes = range .nodes .1; pool = range .pool .1; most = range .code; room = all-room work refl; lent = lent .code }
@@ -172,19 +173,19 @@ module _ (l : Limits) (b q work code results : List ℕ) (P : Passed l b q work 
   reads book end t = let a = asked .is in let same : book ≡ asked .book = cc in ap (λ (k : Book). readQuestion k q) same ∙ asked .asks
 
   -- the code is too long
-  pub ran-long : (r : Outcome) (work′ code′ : List ℕ) (s : Compiled) (n : ℕ) → settingIs b (limitsOf l) work work′ code code′ s → s ≡ TooLong n → r ≡ refusedBy LongCode → Ran l b q r work work′ code code′ results results
+  pub gives-long : (r : Outcome) (work′ code′ : List ℕ) (s : Compiled) (n : ℕ) → settingIs b (limitsOf l) work work′ code code′ s → s ≡ TooLong n → r ≡ refusedBy LongCode → Gives (e.machine (limitsOf l) m₁ b q) r work work′ code code′ results results
   unfolding settingIs e.machine e.checked answerIs
-  ran-long r work′ code′ s n x y z =
+  gives-long r work′ code′ s n x y z =
       let o : OverRoom b (limitsOf l) work work′ code code′ n = subst (settingIs b (limitsOf l) work work′ code code′) y x in
       let u = o .long in
       let v = o .over in
       let long : leb (length (compile (o .book) .code)) (l .code) ≡ false = lt-leb (length (compile (o .book) .code)) (l .code) (omega arith) in
-      record { is = gives-refused LongCode (e.machine (limitsOf l) m₁ b q) r work work′ code code′ results (rw (P .limits, o .is, reads (o .book) (o .end) (o .is), long, e.checked)) z (o .workStays) (o .codeStays) }
+      gives-refused LongCode (e.machine (limitsOf l) m₁ b q) r work work′ code code′ results (rw (P .limits, o .is, reads (o .book) (o .end) (o .is), long, e.checked)) z (o .workStays) (o .codeStays)
 
   -- the book was accepted: there is no fault in it
-  pub ran-never : (r : Outcome) (work′ code′ : List ℕ) (s : Compiled) (w : Sort) (p : ℕ) → settingIs b (limitsOf l) work work′ code code′ s → s ≡ Fault w p → Ran l b q r work work′ code code′ results results
+  pub gives-never : (r : Outcome) (work′ code′ : List ℕ) (s : Compiled) (w : Sort) (p : ℕ) → settingIs b (limitsOf l) work work′ code code′ s → s ≡ Fault w p → Gives (e.machine (limitsOf l) m₁ b q) r work work′ code code′ results results
   unfolding settingIs
-  ran-never r work′ code′ s w p x y =
+  gives-never r work′ code′ s w p x y =
       let f : readBook b ≡ fault w p = subst (settingIs b (limitsOf l) work work′ code code′) y x in
       let a = asked .is in
       let z : _≡_ {A = ℕ} 0 1 = cc in
@@ -228,11 +229,61 @@ module _ (l : Limits) (b q work code results : List ℕ) (P : Passed l b q work 
     not-refused r = let h = refusal-high (answerOf (e.machine (limitsOf l) m₁ b q)) r in let k = ans.accepted-ended accepted .low in let z = ap (λ (o : e.Outcome). e.numberOf (answerOf o)) (agree (limitsOf l) m₁ b q) in omega arith
 
     -- the question was asked: the definition's answer, counts and results
-    pub ran-done : (r : Outcome) (d : Done) (work″ results′ : List ℕ) → AskDone (limitsOf l) (take n code′) work′ q results results′ d → length results′ ≡ length results → r ≡ givenBy d → Ran l b q r work work″ code code′ results results′
+    pub gives-asked : (r : Outcome) (d : Done) (work″ results′ : List ℕ) → AskDone (limitsOf l) (take n code′) work′ q results results′ d → length results′ ≡ length results → r ≡ givenBy d → Gives (e.machine (limitsOf l) m₁ b q) r work work″ code code′ results results′
     unfolding asks
-    ran-done r d work″ results′ D z p = record {
-      is =
-          gives-done d (e.machine (limitsOf l) m₁ b q) r (compile (set .book) .code) work work″ code code′ results results′
-          (R.machine-asks accepted ∙ ap (λ (c : List ℕ). e.closed c (e.ask (m.turn (compile (set .book))) (limitsOf l) m.fromStart (asked .right))) coded ∙ D .is asks ∙ ap (λ (c : List ℕ). e.outcome (answerIs (d .answer)) (countsIn (d .state)) (take (d .state .written) results′) c) (sym coded))
-          p (let w = D .written in let v = lent .results in omega arith) (D .behind) (set .coded ∙ ap (λ (k : ℕ). compile (set .book) .code ++ drop k code) (set .long)) not-refused;
-    }
+    gives-asked r d work″ results′ D z p =
+        gives-done d (e.machine (limitsOf l) m₁ b q) r (compile (set .book) .code) work work″ code code′ results results′
+        (R.machine-asks accepted ∙ ap (λ (c : List ℕ). e.closed c (e.ask (m.turn (compile (set .book))) (limitsOf l) m.fromStart (asked .right))) coded ∙ D .is asks ∙ ap (λ (c : List ℕ). e.outcome (answerIs (d .answer)) (countsIn (d .state)) (take (d .state .written) results′) c) (sym coded))
+        p (let w = D .written in let v = lent .results in omega arith) (D .behind) (set .coded ∙ ap (λ (k : ℕ). compile (set .book) .code ++ drop k code) (set .long)) not-refused
+
+-- the definition looks at lent lengths only to see that they are enough
+machine-lent : (l : e.Limits) (m m′ : e.Lent) (b q : List ℕ) → (e.inRange l && e.lentFits l m) ≡ true → (e.inRange l && e.lentFits l m′) ≡ true → e.machine l m b q ≡ e.machine l m′ b q
+unfolding e.machine e.checked
+machine-lent l m m′ b q t u = rw (t, u, e.checked)
+
+-- a part of work memory is lent on
+module _ (l : Limits) (b q work code results : List ℕ) (P : Passed l b q work code results) where
+  abbrev whole : e.Lent
+  whole = lentOf (length work) (length code) (length results)
+
+  -- what computing the size asked needs
+  pub size-asks : (l .nodes ≤ 16384) × (l .pool ≤ 1024)
+  size-asks = let r = range l b q work code results P in (r .nodes .1, r .pool .1)
+
+  pub size-lent : e.workSize (limitsOf l) ≤ length work
+  size-lent = lent l b q work code results P .work
+
+  -- a part that is long enough is accepted as the whole is
+  pub part-passed : (size : ℕ) → size ≤ length work → e.workSize (limitsOf l) ≤ size → Passed l b q (take size work) code results
+  part-passed size within enough =
+      let f = lent l b q work code results P in
+      let y = length-take-le size work within in
+      let part : e.Lent = lentOf (length (take size work)) (length code) (length results) in
+      let t = both (e.inRange (limitsOf l)) (e.lentFits (limitsOf l) whole) (P .limits) .0 in
+      record {
+        limits = sym (fit-second (e.inRange (limitsOf l)) (e.lentFits (limitsOf l) part) true t (lent-yes (limitsOf l) part (record { work = omega arith; code = f .code; results = f .results })));
+        verdict = P .verdict;
+      }
+
+  -- a part of the size asked, put back: nothing beyond that size has changed
+  pub ran-part : (size : ℕ) → size ≡ e.workSize (limitsOf l) → (r : Outcome) (s code′ results′ : List ℕ) → length s ≡ length (take size work)
+      → Gives (e.machine (limitsOf l) (lentOf (length (take size work)) (length code) (length results)) b q) r (take size work) s code code′ results results′
+      → Ran l b q r work (s ++ drop size work) code code′ results results′
+  ran-part size k r s code′ results′ z G =
+      let part : e.Lent = lentOf (length (take size work)) (length code) (length results) in
+      let y = size-lent in
+      let within : size ≤ length work = omega arith in
+      record {
+        is =
+            subst (λ (o : e.Outcome). Gives o r work (s ++ drop size work) code code′ results results′) (machine-lent (limitsOf l) part whole b q (part-passed size within (omega arith) .limits) (P .limits))
+            (record {
+              answered = G .answered;
+              counted = G .counted;
+              told = G .told;
+              written = G .written;
+              resultsHold = G .resultsHold;
+              codeHolds = G .codeHolds;
+              workStays = λ x. ap (λ (t : List ℕ). t ++ drop size work) (G .workStays x) ∙ take-append-drop size work;
+            });
+        workBeyond = subst (λ (n : ℕ). drop n (s ++ drop size work) ≡ drop n work) k (drop-at s (drop size work) size (z ∙ length-take-le size work within));
+      }

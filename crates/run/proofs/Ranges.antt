@@ -1,5 +1,5 @@
 -- Limits and lent memory: the tests as facts on numbers.
--- Here, in order: what each test says; what shows it; what refutes it; both tests.
+-- Here, in order: the work memory asked; what each test says; what shows it; what refutes it; both tests.
 -- Assumes nothing.
 use Prim.Native.Nat.{ℕ, _+_, _*_, _≤_}
 use native.Mathlib.Omega.{arith}
@@ -8,6 +8,11 @@ use mathlib.Core.Bool.{Bool, true, false, _&&_}
 use lib.Dec.{leb}
 use borrow.Author.Tests.{leb-true, le-leb}
 use Rattle.engine.specs.Run.{Limits, Lent, inRange, workSize, lentFits}
+
+-- the work memory asked, as a number
+pub size-is : (l : Limits) → workSize l ≡ 40 * l .nodes + 40 * l .pool + 8192
+unfolding workSize
+size-is l = refl
 
 -- in range
 pub record InRange (l : Limits) : Type 0 where
@@ -19,7 +24,7 @@ pub record InRange (l : Limits) : Type 0 where
 
 -- long enough
 pub record LentFits (l : Limits) (m : Lent) : Type 0 where
-  pub work : 40 * l .nodes + 40 * l .pool + 8192 ≤ m .work
+  pub work : workSize l ≤ m .work
   pub code : l .code ≤ m .code
   pub results : l .results ≤ m .results
 
@@ -46,7 +51,7 @@ range-facts l t =
     }
 
 pub lent-facts : (l : Limits) (m : Lent) → lentFits l m ≡ true → LentFits l m
-unfolding lentFits workSize
+unfolding lentFits
 lent-facts l m t =
     let g = both _ _ t in
     let h = both _ _ (g .0) in
@@ -57,7 +62,7 @@ unfolding inRange
 range-yes l f = rw (le-leb _ _ (f .nodes .0), le-leb _ _ (f .nodes .1), le-leb _ _ (f .pool .0), le-leb _ _ (f .pool .1), le-leb _ _ (f .budget), le-leb _ _ (f .results), le-leb _ _ (f .code))
 
 pub lent-yes : (l : Limits) (m : Lent) → LentFits l m → true ≡ lentFits l m
-unfolding lentFits workSize
+unfolding lentFits
 lent-yes l m f = rw (le-leb _ _ (f .work), le-leb _ _ (f .code), le-leb _ _ (f .results))
 
 pub range-no : (l : Limits) → (InRange l → ⊥) → false ≡ inRange l

@@ -5,7 +5,7 @@
 use Prim.Native.Nat.{ℕ}
 use mathlib.Core.Path.{_≡_}
 use mathlib.Core.List.{List}
-use lib.ListN.{length}
+use lib.ListN.{length, drop}
 use Rattle.book.specs.Answers.{Counts, counts, Told, told}
 use Rattle.engine.specs.Run as e
 use Rattle.run.specs.declared.Limits.{Limits}
@@ -72,6 +72,7 @@ pub record Gives (o : e.Outcome) (r : Outcome) (work work′ code code′ result
   pub codeHolds : code′ ≡ e.codeAfter o code
   pub workStays : Refusal (answerOf o) → work′ ≡ work
 
--- The run's contract: for all limits, books, questions and lent memories, what is given is what the machine's definition gives.
+-- The run's contract: for all limits, books, questions and lent memories, what is given is what the machine's definition gives; work memory beyond the size asked is as lent.
 pub record Ran (l : Limits) (b q : List ℕ) (r : Outcome) (work work′ code code′ results results′ : List ℕ) : Type 0 where
   pub is : Gives (e.machine (limitsOf l) (lentOf (length work) (length code) (length results)) b q) r work work′ code code′ results results′
+  pub workBeyond : drop (e.workSize (limitsOf l)) work′ ≡ drop (e.workSize (limitsOf l)) work

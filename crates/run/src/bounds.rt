@@ -1,10 +1,10 @@
 // Limits and lent memory: in range, and as long as is asked.
-// Here, in order: the limits; the lent memories; both.
+// Here, in order: the limits; the work memory asked; the lent memories; both.
 use crate::Limits;
 ghost use mathlib.Core.Path.{_≡_};
 ghost use mathlib.Core.Bool.{_&&_};
 ghost use Prim.Native.Nat.{_≤_};
-ghost use Rattle.engine.specs.Run.{inRange, lentFits};
+ghost use Rattle.engine.specs.Run.{inRange, workSize, lentFits};
 ghost use Rattle.run.specs.Given.{limitsOf, lentOf};
 
 // The limits are in range.
@@ -35,12 +35,20 @@ fn in_range(l: Limits) -> bool
     true
 }
 
+// The work memory asked, in bytes.
+pub fn work_size(l: Limits) -> usize
+    requires { ⌜ (l .nodes ≤ 16384) × (l .pool ≤ 1024) ⌝ }
+    ensures { λ r. ⌜ r ≡ workSize (limitsOf l) ⌝ }
+{
+    40 * l.nodes + 40 * l.pool + 8192
+}
+
 // Each lent memory is as long as is asked.
 fn long_enough(l: Limits, work: usize, code: usize, results: usize) -> bool
     requires { ⌜ (l .nodes ≤ 16384) × (l .pool ≤ 1024) ⌝ }
     ensures { λ r. ⌜ r ≡ lentFits (limitsOf l) (lentOf work code results) ⌝ }
 {
-    if work < 40 * l.nodes + 40 * l.pool + 8192 {
+    if work < work_size(l) {
         return false;
     }
     if code < l.code {

@@ -6,11 +6,14 @@ use crate::Limits;
 use crate::Outcome;
 use crate::asks::ask;
 use crate::bounds::fit;
+use crate::bounds::work_size;
 use crate::setup::set_up;
 use book::Verdict;
 use compiler::Compiled;
 ghost use mathlib.Core.Path.{_≡_};
-ghost use Rattle.run.specs.Given.{Ran};
+ghost use lib.ListN.{length};
+ghost use Rattle.engine.specs.Run.{machine};
+ghost use Rattle.run.specs.Given.{limitsOf, lentOf, Gives, Ran};
 ghost use Rattle.run.specs.Passed.{Passed, refusedBy, givenBy};
 
 // A refusal: every count 0.
@@ -59,7 +62,7 @@ fn run_accepted(
     results: &mut [u8],
 ) -> Outcome
     requires { ⌜ Passed l (now book) (now question) (now work) (now code) (now results) ⌝ }
-    ensures { λ r. ⌜ Ran l (now (book .entry)) (now (question .entry)) r (now (work .entry)) (now (work .exit)) (now (code .entry)) (now (code .exit)) (now (results .entry)) (now (results .exit)) ⌝ }
+    ensures { λ r. ⌜ Gives (machine (limitsOf l) (lentOf (length (now (work .entry))) (length (now (code .entry))) (length (now (results .entry)))) (now (book .entry)) (now (question .entry))) r (now (work .entry)) (now (work .exit)) (now (code .entry)) (now (code .exit)) (now (results .entry)) (now (results .exit)) ⌝ }
 {
     let s = set_up(book, work, code, l);
     match s {
@@ -77,6 +80,7 @@ fn run_accepted(
 }
 
 // The run: what is refused is refused in this order, and writes nothing: limits or lent memory, the book, the question, the code's length.
+// Of work memory only as much as is asked is lent on.
 pub fn run(
     book: &[u8],
     question: &[u8],
@@ -99,7 +103,8 @@ pub fn run(
             return refuse(Answer::BadQuestion(w, p));
         }
         Verdict::Accepted => {
-            return run_accepted(book, question, limits, work, code, results);
+            let size = work_size(limits);
+            return run_accepted(book, question, limits, &mut work[..size], code, results);
         }
     }
 }

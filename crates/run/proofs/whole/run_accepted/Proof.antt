@@ -1,7 +1,7 @@
 use mathlib.Core.Path.{sym}
 use lib.Seq.{length-take-le}
 use borrow.Author.Needs.{needs}
-use Rattle.run.proofs.Outcomes.{lends, code-there, roomy, code-short, asks, ran-done, ran-long, ran-never}
+use Rattle.run.proofs.Outcomes.{lends, code-there, roomy, code-short, asks, gives-asked, gives-long, gives-never}
 use Rattle.run.proofs.whole.run_accepted.Statement.{statement}
 use Rattle.run.proofs.whole.run_accepted.Tie as tie
 
@@ -33,7 +33,7 @@ same-length-3 : tie.Need-same-length-3
 same-length-3 c = search needs
 
 returns : tie.Need-returns
-returns c = ran-done _ _ _ _ _ _ (c .before .before .before .before .before .before .before .before .before .before .before .before .before .before .before .before .before .before .before .before .before .before .before .before .pre) _ _ _ _ (c .before .before .before .before .before .before .before .before .before .before .before .before .before .before .before .before .set-up .ensures) (c .before .before .before .before .before .before .before .before .before .before .s .given .1) _ _ _ _ (c .before .before .before .before .before .ask .ensures) (c .before .before .before .before .before .ask .kept .1 .1 .0) (c .give .ensures)
+returns c = gives-asked _ _ _ _ _ _ (c .before .before .before .before .before .before .before .before .before .before .before .before .before .before .before .before .before .before .before .before .before .before .before .before .pre) _ _ _ _ (c .before .before .before .before .before .before .before .before .before .before .before .before .before .before .before .before .set-up .ensures) (c .before .before .before .before .before .before .before .before .before .before .s .given .1) _ _ _ _ (c .before .before .before .before .before .ask .ensures) (c .before .before .before .before .before .ask .kept .1 .1 .0) (c .give .ensures)
 
 enum-told : tie.Need-enum-told
 enum-told c = search needs
@@ -48,7 +48,7 @@ same-length-5 : tie.Need-same-length-5
 same-length-5 c = search needs
 
 returns-2 : tie.Need-returns-2
-returns-2 c = ran-long _ _ _ _ _ _ (c .before .before .before .before .before .before .before .before .before .before .before .before .before .before .before .pre) _ _ _ _ _ (c .before .before .before .before .before .before .before .set-up .ensures) (c .before .enum-told .given .1) (c .refuse .ensures)
+returns-2 c = gives-long _ _ _ _ _ _ (c .before .before .before .before .before .before .before .before .before .before .before .before .before .before .before .pre) _ _ _ _ _ (c .before .before .before .before .before .before .before .set-up .ensures) (c .before .enum-told .given .1) (c .refuse .ensures)
 
 enum-known-s-2 : tie.Need-enum-known-s-2
 enum-known-s-2 c = search needs
@@ -63,7 +63,7 @@ same-length-7 : tie.Need-same-length-7
 same-length-7 c = search needs
 
 returns-3 : tie.Need-returns-3
-returns-3 c = ran-never _ _ _ _ _ _ (c .before .before .before .before .before .before .before .before .before .before .before .before .before .before .before .before .pre) _ _ _ _ _ _ (c .before .before .before .before .before .before .before .before .set-up .ensures) (c .before .before .s2 .given .1)
+returns-3 c = gives-never _ _ _ _ _ _ (c .before .before .before .before .before .before .before .before .before .before .before .before .before .before .before .before .pre) _ _ _ _ _ _ (c .before .before .before .before .before .before .before .before .set-up .ensures) (c .before .before .s2 .given .1)
 
 pub run-accepted-spec : {M : Type 1} → statement M
 run-accepted-spec =
