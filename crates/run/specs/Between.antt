@@ -100,8 +100,8 @@ unfoldable pub storeBare : StoreMoment → StoreMoment
 storeBare (storeMoment μ [] κ out) = storeMoment μ [] κ out
 storeBare (storeMoment μ (c ∷ cs) κ out) = storeMoment μ (bareHeld c ∷ cs) κ out
 
--- A turn that can't be taken: what stood for the moment x stands for it still, as y: the same counts and results, every waiting computation in its place, each with its stack; of the front's
--- stack, if none of its entries is a call any more, nothing is said, and the next turn would not read it.
+-- A turn that can't be taken: what stood for the moment x stands for it still, as y: the same counts and results, every waiting computation in its place, each with its stack. Only of a
+-- front's stack that the turn dropped nothing is said.
 pub record Untaken (book : Book) (fine : FineBook book) (l : e.Limits) (x : e.Moment m.Kept) (y : StoreMoment) : Type 0 where
   pub whole : ¬ (Dropped x) → StandsFor book fine l x y
   pub beside : StandsFor book fine l (bare x) (storeBare y)
@@ -112,8 +112,8 @@ writtenBy st (Ended a) = st .written
 writtenBy st (On st′) = st′ .written
 
 -- One step. For every accepted book and every moment of its definition's run that the state stands for: the step ends the run with the definition's answer, or gives a
--- state that stands for the definition's next moment, node numbers and forwards aside, each computation's stack included. If the step ends the run, the state stands for its
--- moment still. Results written before stand, and bytes beyond those written are as lent.
+-- state that stands for the definition's next moment, node numbers and forwards aside, each computation's stack included. If the step ends the run, the state with the memory as it is
+-- then stands for its moment still (Untaken). Results written before stand, and bytes beyond those written are as lent.
 pub record StepTaken (l : e.Limits) (n : ℕ) (code : List ℕ) (st : State) (s s′ results results′ : List ℕ) (r : Stepped) : Type 0 where
   pub next : (R : Runs l n code st s results) → StandsNext (R .book) (R .fine) l (e.step (m.turn (compile (R .book))) l (R .moment)) (nextOf l n s′ results′ r)
   pub tables : (R : Runs l n code st s results) → Has (compile (R .book)) (20 * l .pool) (restOf (l .nodes) s′)
