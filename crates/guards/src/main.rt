@@ -1,5 +1,5 @@
 // A shelf of cases from standard input, each run on slices that lie in the middle of larger memories: a line for each, `ok` or what was touched and should not have been.
-// Here, in order: the pattern that memories are filled with; what is checked of each; the run between guards; a case; all cases.
+// Here, in order: how much is lent; the run between guards; a case; all cases. The modules, lowest first: marks, leaves.
 // Not here: the stream (crate cases), the run (crate run). That nothing else is touched is proved; here it is seen from outside. No contract can say what is read or written.
 //
 // A line that is not `ok` names one thing after the other and ends with `touched`: bytes before or after a lent slice (`work before; `, `code after; `, ..); bytes of a lent memory that
@@ -8,182 +8,27 @@
 use cases::Head;
 use cases::Passed;
 use cases::Question;
-use compiler::Compiled;
+use leaves::check_all;
+use leaves::say;
 use lines::least;
+use marks::copy;
+use marks::fill;
+use marks::same;
 use run::Limits;
 use run::Outcome;
 ghost use mathlib.Core.Path.{_≡_};
-ghost use mathlib.Core.Bool.{true};
-ghost use Prim.Native.Nat.{_+_, _≤_, _<_};
-ghost use lib.ListN.{length, getD};
-ghost use Rattle.guards.specs.Pattern.{patternAt, Filled, Same, Rooms, Lent};
+ghost use Prim.Native.Nat.{_≤_, _<_};
+ghost use lib.ListN.{length};
+ghost use Rattle.guards.specs.Pattern.{Rooms, Lent};
+
+mod leaves;
+mod marks;
 
 // How many bytes each memory is lent.
-struct Sizes {
-    work: usize,
-    code: usize,
-    results: usize,
-}
-
-// The byte that stands at a place before a run: no two neighbours alike, and no memory of zeros.
-fn pattern(i: usize) -> u8
-    ensures { λ r. ⌜ r ≡ patternAt i ⌝ }
-{
-    (i % 251) as u8 + 1
-}
-
-// Fills the first n bytes.
-fn fill(mem: &mut [u8], n: usize)
-    requires { ⌜ n ≤ length (now mem) ⌝ }
-{
-    let mut i = 0;
-    while i < n {
-        mem[i] = pattern(i);
-        i += 1;
-    }
-}
-
-// Whether the bytes from one place to another are as they were filled.
-fn intact(mem: &[u8], from: usize, to: usize) -> bool
-    requires { ⌜ to ≤ length (now mem) ⌝ }
-    ensures { λ r. ⌜ (r ≡ true → Filled (now (mem .entry)) from to) ⌝ }
-{
-    let mut i = from;
-    while i < to {
-        if mem[i] != pattern(i) {
-            return false;
-        }
-        i += 1;
-    }
-    true
-}
-
-// Whether the first n bytes of one slice are those of another from a place on.
-fn same(a: &[u8], b: &[u8], from: usize, n: usize) -> bool
-    requires { ⌜ (n ≤ length (now a)) × (from + n ≤ length (now b)) ⌝ }
-    ensures { λ r. ⌜ (r ≡ true → Same (now (a .entry)) (now (b .entry)) from n) ⌝ }
-{
-    let mut i = 0;
-    while i < n {
-        if a[i] != b[from + i] {
-            return false;
-        }
-        i += 1;
-    }
-    true
-}
-
-// Copies the first n bytes.
-fn copy(src: &[u8], dst: &mut [u8], n: usize)
-    requires { ⌜ (n ≤ length (now src)) × (n ≤ length (now dst)) ⌝ }
-{
-    let mut i = 0;
-    while i < n {
-        dst[i] = src[i];
-        i += 1;
-    }
-}
-
-// Names what is not as it should be; whether all is.
-fn say(fine: bool, what: &[u8]) -> bool {
-    if fine {
-        return true;
-    }
-    io::write_all(1, what);
-    false
-}
-
-// Whether the 64 bytes before and the 64 after a memory's n lent bytes are as they were filled.
-fn check_sides(mem: &[u8], n: usize, before: &[u8], after: &[u8]) -> bool
-    requires { ⌜ n + 128 ≤ length (now mem) ⌝ }
-{
-    let a = say(intact(mem, 0, 64), before);
-    let b = say(intact(mem, 64 + n, 128 + n), after);
-    a && b
-}
-
-// Whether a memory's n lent bytes are as they were filled, from the k-th on.
-fn check_from(mem: &[u8], k: usize, n: usize, what: &[u8]) -> bool
-    requires { ⌜ (k ≤ n) × (n + 128 ≤ length (now mem)) ⌝ }
-{
-    say(intact(mem, 64 + k, 64 + n), what)
-}
-
-// Whether the c lent bytes of code memory are n bytes of code, and beyond them as they were filled.
-fn check_written(own: &[u8], n: usize, code: &[u8], c: usize) -> bool
-    requires { ⌜ (n ≤ length (now own)) × (c + 128 ≤ length (now code)) ⌝ }
-{
-    if c < n {
-        return say(false, b"code; ");
-    }
-    let a = say(same(own, code, 64, n), b"code; ");
-    let b = check_from(code, n, c, b"code rest; ");
-    a && b
-}
-
-// Room for the longest code.
-fn code_room() -> [u8; 262144]
-    ensures { λ r. ⌜ 262144 ≡ length r ⌝ }
-{
-    [0; 262144]
-}
-
-// The same, the code compiled here once more.
-fn check_code(book: &[u8], code: &[u8], c: usize) -> bool
-    requires { ⌜ c + 128 ≤ length (now code) ⌝ }
-{
-    let mut tables = io::buffer();
-    let mut own = code_room();
-    let r = compiler::compile_into(book, &mut tables, &mut own, 262144);
-    match r {
-        Compiled::Fits(n) => check_written(&own, n, code, c),
-        Compiled::TooLong(_) => say(false, b"code; "),
-        Compiled::Fault(_, _) => say(false, b"code; "),
-    }
-}
-
-// What a refusal leaves: every lent byte.
-fn check_refused(work: &[u8], code: &[u8], results: &[u8], s: Sizes) -> bool
-    requires { ⌜ Lent s (now work) (now code) (now results) ⌝ }
-{
-    let a = check_from(work, 0, s.work, b"work refused; ");
-    let b = check_from(code, 0, s.code, b"code refused; ");
-    let c = check_from(results, 0, s.results, b"results refused; ");
-    a && b && c
-}
-
-// What another run leaves: the code's bytes, result bytes beyond those written.
-fn check_run(book: &[u8], code: &[u8], results: &[u8], s: Sizes, written: usize) -> bool
-    requires { ⌜ (s .code + 128 ≤ length (now code)) × (s .results + 128 ≤ length (now results)) ⌝ }
-{
-    let a = check_code(book, code, s.code);
-    let n = s.results;
-    let b = check_from(results, least(written, n), n, b"results rest; ");
-    a && b
-}
-
-// What lies before and after each lent slice.
-fn check_guards(work: &[u8], code: &[u8], results: &[u8], s: Sizes) -> bool
-    requires { ⌜ Lent s (now work) (now code) (now results) ⌝ }
-{
-    let a = check_sides(work, s.work, b"work before; ", b"work after; ");
-    let b = check_sides(code, s.code, b"code before; ", b"code after; ");
-    let c = check_sides(results, s.results, b"results before; ", b"results after; ");
-    a && b && c
-}
-
-// All of what a run leaves.
-fn check_all(book: &[u8], work: &[u8], code: &[u8], results: &[u8], s: Sizes, o: Outcome) -> bool
-    requires { ⌜ Lent s (now work) (now code) (now results) ⌝ }
-{
-    let a = check_guards(work, code, results, s);
-    let answer = o.answer;
-    let b = if 10 <= lines::number(answer) {
-        check_refused(work, code, results, s)
-    } else {
-        check_run(book, code, results, s, o.written)
-    };
-    a && b
+pub struct Sizes {
+    pub work: usize,
+    pub code: usize,
+    pub results: usize,
 }
 
 // Of each memory what the limits ask, or what there is room for between the guards.

@@ -17,7 +17,7 @@ abbrev μ-loop : tie.MeasureT-loop
 
 -- src/main.rt:105:9
 slice-aggregate-book : tie.Need-slice-aggregate-book Inv-loop μ-loop
-slice-aggregate-book c = sym (length-replicate {A = ℕ} 32769 0)
+slice-aggregate-book c = sym (length-replicate {A = ℕ} _ 0)
 
 -- src/main.rt:106:9
 slice-aggregate-question : tie.Need-slice-aggregate-question Inv-loop μ-loop
@@ -37,7 +37,7 @@ slice-aggregate-results c = sym (length-replicate {A = ℕ} 65536 0)
 
 -- src/main.rt:111:5
 loop-holds : tie.Need-loop-holds Inv-loop μ-loop
-loop-holds c = (room 32769 32769 all, room 771 1048576 most)
+loop-holds c = (room 32769 _ all, room 771 1048576 most)
 
 -- src/main.rt:111:24
 next-requires : tie.Need-next-requires Inv-loop μ-loop

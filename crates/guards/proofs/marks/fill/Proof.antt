@@ -3,11 +3,11 @@ use mathlib.Core.Path.{_≡_}
 use lib.ListN.{length}
 use native.Mathlib.Omega.{arith}
 use borrow.Author.Needs.{needs}
-use Rattle.guards.proofs.fill.Statement.{statement}
-use Rattle.guards.proofs.fill.Tie as tie
-use Rattle.guards.proofs.fill.Reads as reads
-use Rattle.guards.proofs.fill.Lts as lts
-use Rattle.guards.proofs.pattern.Reads as pattern-reads
+use Rattle.guards.proofs.marks.fill.Statement.{statement}
+use Rattle.guards.proofs.marks.fill.Tie as tie
+use Rattle.guards.proofs.marks.fill.Reads as reads
+use Rattle.guards.proofs.marks.fill.Lts as lts
+use Rattle.guards.proofs.marks.pattern.Reads as pattern-reads
 
 abbrev Inv-loop : tie.InvT-loop
 Inv-loop mem₀ n i₀ mem i = length mem ≡ length mem₀

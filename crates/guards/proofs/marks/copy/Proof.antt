@@ -3,10 +3,10 @@ use mathlib.Core.Path.{_≡_}
 use lib.ListN.{length}
 use native.Mathlib.Omega.{arith}
 use borrow.Author.Needs.{needs}
-use Rattle.guards.proofs.copy.Statement.{statement}
-use Rattle.guards.proofs.copy.Tie as tie
-use Rattle.guards.proofs.copy.Reads as reads
-use Rattle.guards.proofs.copy.Lts as lts
+use Rattle.guards.proofs.marks.copy.Statement.{statement}
+use Rattle.guards.proofs.marks.copy.Tie as tie
+use Rattle.guards.proofs.marks.copy.Reads as reads
+use Rattle.guards.proofs.marks.copy.Lts as lts
 
 abbrev Inv-loop : tie.InvT-loop
 Inv-loop src dst₀ n i₀ dst i = length dst ≡ length dst₀

@@ -2,14 +2,14 @@ use native.Mathlib.Omega.{arith}
 use Rattle.mem.proofs.Laws.{length-words}
 use Rattle.guards.proofs.Seen.{code-fits}
 use borrow.Author.Needs.{needs}
-use Rattle.guards.proofs.check_code.Statement.{statement}
-use Rattle.guards.proofs.check_code.Tie as tie
-use Rattle.guards.proofs.check_code.Reads as reads
-use Rattle.guards.proofs.check_code.Lts as lts
+use Rattle.guards.proofs.leaves.check_code.Statement.{statement}
+use Rattle.guards.proofs.leaves.check_code.Tie as tie
+use Rattle.guards.proofs.leaves.check_code.Reads as reads
+use Rattle.guards.proofs.leaves.check_code.Lts as lts
 use Rattle.compiler.proofs.compile_into.Reads as compile-into-reads
-use Rattle.guards.proofs.check_written.Reads as check-written-reads
-use Rattle.guards.proofs.code_room.Reads as code-room-reads
-use Rattle.guards.proofs.say.Reads as say-reads
+use Rattle.guards.proofs.leaves.check_written.Reads as check-written-reads
+use Rattle.guards.proofs.leaves.code_room.Reads as code-room-reads
+use Rattle.guards.proofs.leaves.say.Reads as say-reads
 use Rattle.io.proofs.buffer.Reads as buffer-reads
 
 -- src/main.rt:135:22

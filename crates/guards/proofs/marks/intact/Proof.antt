@@ -6,11 +6,11 @@ use native.Mathlib.Omega.{arith}
 use borrow.Author.Needs.{needs}
 use Rattle.guards.specs.Pattern.{Filled}
 use Rattle.guards.proofs.Seen.{no, filled-none, filled-more, filled-upto}
-use Rattle.guards.proofs.intact.Statement.{statement}
-use Rattle.guards.proofs.intact.Tie as tie
-use Rattle.guards.proofs.intact.Reads as reads
-use Rattle.guards.proofs.intact.Lts as lts
-use Rattle.guards.proofs.pattern.Reads as pattern-reads
+use Rattle.guards.proofs.marks.intact.Statement.{statement}
+use Rattle.guards.proofs.marks.intact.Tie as tie
+use Rattle.guards.proofs.marks.intact.Reads as reads
+use Rattle.guards.proofs.marks.intact.Lts as lts
+use Rattle.guards.proofs.marks.pattern.Reads as pattern-reads
 
 abbrev Inv-loop : tie.InvT-loop
 Inv-loop mem from to i₀ i = Filled mem from i

@@ -5,10 +5,10 @@ use native.Mathlib.Omega.{arith}
 use borrow.Author.Needs.{needs}
 use Rattle.guards.specs.Pattern.{Same}
 use Rattle.guards.proofs.Seen.{no, same-none, same-more, same-upto}
-use Rattle.guards.proofs.same.Statement.{statement}
-use Rattle.guards.proofs.same.Tie as tie
-use Rattle.guards.proofs.same.Reads as reads
-use Rattle.guards.proofs.same.Lts as lts
+use Rattle.guards.proofs.marks.same.Statement.{statement}
+use Rattle.guards.proofs.marks.same.Tie as tie
+use Rattle.guards.proofs.marks.same.Reads as reads
+use Rattle.guards.proofs.marks.same.Lts as lts
 
 abbrev Inv-loop : tie.InvT-loop
 Inv-loop a b from n i₀ i = Same a b from i

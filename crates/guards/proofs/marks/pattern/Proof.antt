@@ -1,9 +1,9 @@
 use Rattle.guards.specs.Pattern.{patternAt}
 use borrow.Author.Needs.{needs}
-use Rattle.guards.proofs.pattern.Statement.{statement}
-use Rattle.guards.proofs.pattern.Tie as tie
-use Rattle.guards.proofs.pattern.Reads as reads
-use Rattle.guards.proofs.pattern.Lts as lts
+use Rattle.guards.proofs.marks.pattern.Statement.{statement}
+use Rattle.guards.proofs.marks.pattern.Tie as tie
+use Rattle.guards.proofs.marks.pattern.Reads as reads
+use Rattle.guards.proofs.marks.pattern.Lts as lts
 
 -- src/main.rt:32:5
 cast-result : tie.Need-cast-result
