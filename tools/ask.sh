@@ -3,6 +3,7 @@
 # A file holds bytes in hexadecimal, in any grouping; '#' starts a comment that goes to the end of the line. The program is built first if it is not there.
 set -eu
 [ $# -eq 2 ] || { sed -n 2,3p "$0" | cut -c3- >&2; exit 2; }
+for f in "$1" "$2"; do [ -r "$f" ] || { echo "ask.sh: can't read $f" >&2; exit 2; }; done
 root=$(cd "$(dirname "$0")/.." && pwd)
 digits() { sed 's/#.*//' "$1" | tr -d ' \t\r\n'; }
 book=$(digits "$1") question=$(digits "$2")
