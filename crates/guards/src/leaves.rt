@@ -13,7 +13,9 @@ ghost use lib.ListN.{length};
 ghost use Rattle.guards.specs.Pattern.{Lent};
 
 // Names what is not as it should be; whether all is.
-pub fn say(fine: bool, what: &[u8]) -> bool {
+pub fn say(fine: bool, what: &[u8]) -> bool
+    ensures { λ r. ⌜ r ≡ fine ⌝ }
+{
     if fine {
         return true;
     }
@@ -22,7 +24,7 @@ pub fn say(fine: bool, what: &[u8]) -> bool {
 }
 
 // Whether the 64 bytes before and the 64 after a memory's n lent bytes are as they were filled.
-pub fn check_sides(mem: &[u8], n: usize, before: &[u8], after: &[u8]) -> bool
+fn check_sides(mem: &[u8], n: usize, before: &[u8], after: &[u8]) -> bool
     requires { ⌜ n + 128 ≤ length (now mem) ⌝ }
 {
     let a = say(intact(mem, 0, 64), before);
@@ -31,14 +33,14 @@ pub fn check_sides(mem: &[u8], n: usize, before: &[u8], after: &[u8]) -> bool
 }
 
 // Whether a memory's n lent bytes are as they were filled, from the k-th on.
-pub fn check_from(mem: &[u8], k: usize, n: usize, what: &[u8]) -> bool
+fn check_from(mem: &[u8], k: usize, n: usize, what: &[u8]) -> bool
     requires { ⌜ (k ≤ n) × (n + 128 ≤ length (now mem)) ⌝ }
 {
     say(intact(mem, 64 + k, 64 + n), what)
 }
 
 // Whether the c lent bytes of code memory are n bytes of code, and beyond them as they were filled.
-pub fn check_written(own: &[u8], n: usize, code: &[u8], c: usize) -> bool
+fn check_written(own: &[u8], n: usize, code: &[u8], c: usize) -> bool
     requires { ⌜ (n ≤ length (now own)) × (c + 128 ≤ length (now code)) ⌝ }
 {
     if c < n {
@@ -50,14 +52,14 @@ pub fn check_written(own: &[u8], n: usize, code: &[u8], c: usize) -> bool
 }
 
 // Room for the longest code.
-pub fn code_room() -> [u8; 262144]
+fn code_room() -> [u8; 262144]
     ensures { λ r. ⌜ 262144 ≡ length r ⌝ }
 {
     [0; 262144]
 }
 
 // The same, the code compiled here once more.
-pub fn check_code(book: &[u8], code: &[u8], c: usize) -> bool
+fn check_code(book: &[u8], code: &[u8], c: usize) -> bool
     requires { ⌜ c + 128 ≤ length (now code) ⌝ }
 {
     let mut tables = io::buffer();
@@ -71,7 +73,7 @@ pub fn check_code(book: &[u8], code: &[u8], c: usize) -> bool
 }
 
 // What a refusal leaves: every lent byte.
-pub fn check_refused(work: &[u8], code: &[u8], results: &[u8], s: Sizes) -> bool
+fn check_refused(work: &[u8], code: &[u8], results: &[u8], s: Sizes) -> bool
     requires { ⌜ Lent s (now work) (now code) (now results) ⌝ }
 {
     let a = check_from(work, 0, s.work, b"work refused; ");
@@ -81,7 +83,7 @@ pub fn check_refused(work: &[u8], code: &[u8], results: &[u8], s: Sizes) -> bool
 }
 
 // What another run leaves: the code's bytes, result bytes beyond those written.
-pub fn check_run(book: &[u8], code: &[u8], results: &[u8], s: Sizes, written: usize) -> bool
+fn check_run(book: &[u8], code: &[u8], results: &[u8], s: Sizes, written: usize) -> bool
     requires { ⌜ (s .code + 128 ≤ length (now code)) × (s .results + 128 ≤ length (now results)) ⌝ }
 {
     let a = check_code(book, code, s.code);
@@ -91,7 +93,7 @@ pub fn check_run(book: &[u8], code: &[u8], results: &[u8], s: Sizes, written: us
 }
 
 // What lies before and after each lent slice.
-pub fn check_guards(work: &[u8], code: &[u8], results: &[u8], s: Sizes) -> bool
+fn check_guards(work: &[u8], code: &[u8], results: &[u8], s: Sizes) -> bool
     requires { ⌜ Lent s (now work) (now code) (now results) ⌝ }
 {
     let a = check_sides(work, s.work, b"work before; ", b"work after; ");
