@@ -11,14 +11,14 @@ use book::{ConNo, FunNo};
 use store::{Head, NodeNo, Seen};
 
 // A node as it was: what is seen of it, and its arguments.
-#[derive(Drop)]
+#[derive(Clone, Copy)]
 pub struct Saved {
     pub what: Seen,
     pub args: [u16; 8],
 }
 
 // Whether the copies fit, and how many nodes are made then.
-#[derive(Drop)]
+#[derive(Clone, Copy)]
 pub struct Grown {
     pub fits: bool,
     pub made: usize,

@@ -11,14 +11,14 @@ use pool::Roots;
 use store::{Head, NodeNo};
 
 // How far the walk over the records is: nodes made, handles pending.
-#[derive(Drop)]
+#[derive(Clone, Copy)]
 pub struct Walk {
     pub made: usize,
     pub depth: usize,
 }
 
 // What came of a question: whether its nodes fit, how many were made, and the computation's handles; its stack is empty.
-#[derive(Drop)]
+#[derive(Clone, Copy)]
 pub struct Built {
     pub fits: bool,
     pub made: usize,

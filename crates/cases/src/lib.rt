@@ -12,7 +12,7 @@ pub use whole::{run_case, take_case, work_size};
 
 // What the first pass over a question has seen so far: whole records, and the place after them; or a record that is not whole yet, its place, how many bytes of its body are
 // due after the next, and the place after what was passed; or a record of an unknown kind, and its place.
-#[derive(Drop)]
+#[derive(Clone, Copy)]
 pub enum Passed {
     Whole(usize),
     Begun(usize, usize, usize),
@@ -20,7 +20,7 @@ pub enum Passed {
 }
 
 // A case's numbers: its limits, the lengths of its book and its question. Or the stream ends, before a case or inside it.
-#[derive(Drop)]
+#[derive(Clone, Copy)]
 pub enum Head {
     Is(Limits, usize, usize),
     Ended,
@@ -28,21 +28,21 @@ pub enum Head {
 }
 
 // A question that was read: how many bytes of what is kept are for the engine, and the first pass over all of it. Or the stream ends inside it.
-#[derive(Drop)]
+#[derive(Clone, Copy)]
 pub enum Question {
     Kept(usize, Passed),
     Cut,
 }
 
 // The first pass over bytes that were passed over. Or the stream ends inside them.
-#[derive(Drop)]
+#[derive(Clone, Copy)]
 pub enum Rest {
     Are(Passed),
     Cut,
 }
 
 // The outcome of a case. Or the stream ends inside it.
-#[derive(Drop)]
+#[derive(Clone, Copy)]
 pub enum Taken {
     Gave(Outcome),
     Cut,

@@ -16,14 +16,14 @@ pub use length::code_length;
 pub use whole::compile_into;
 
 // The place in the book after what was compiled, and the place in the code after what was written.
-#[derive(Drop)]
+#[derive(Clone, Copy)]
 pub struct Ends {
     pub at: usize,
     pub out: usize,
 }
 
 // What the compiler answers: the length of the code, which is written; or that it is longer than the room; or the book's fault.
-#[derive(Drop)]
+#[derive(Clone, Copy)]
 pub enum Compiled {
     Fits(usize),
     TooLong(usize),

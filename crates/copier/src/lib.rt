@@ -10,14 +10,14 @@ ghost use Rattle.copier.specs.Poured.{placed, Spots, new_args, Copies, renumbere
 use store::{Head, NodeNo, Seen};
 
 // Up to nine handles: a value's and its askers'.
-#[derive(Drop)]
+#[derive(Clone, Copy)]
 pub struct Roots {
     pub n: usize,
     pub at: [u16; 9],
 }
 
 // Whether the copy fits, how many nodes are made then, and the copy's handles.
-#[derive(Drop)]
+#[derive(Clone, Copy)]
 pub struct Poured {
     pub fits: bool,
     pub made: usize,

@@ -18,7 +18,7 @@ mod leaves;
 mod marks;
 
 // How many bytes each memory is lent.
-#[derive(Drop)]
+#[derive(Clone, Copy)]
 pub struct Sizes {
     pub work: usize,
     pub code: usize,

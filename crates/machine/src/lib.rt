@@ -13,7 +13,7 @@ use book::FunNo;
 use store::{Head, NodeNo};
 
 // Nothing, or a node.
-#[derive(Drop)]
+#[derive(Clone, Copy)]
 pub enum Cur {
     Empty,
     Holds(NodeNo),
@@ -21,7 +21,7 @@ pub enum Cur {
 
 // What the machine carries: the place in the code, the stack's top + 1 (0: empty), whether there is a current node and which, how
 // many entries the pre-term stack and the free-variable registers have, and how many nodes are made.
-#[derive(Drop)]
+#[derive(Clone, Copy)]
 pub struct Regs {
     pub pc: usize,
     pub top: u16,
@@ -33,7 +33,7 @@ pub struct Regs {
 }
 
 // An operation of the code; LOAD says how many steps its position has.
-#[derive(Drop)]
+#[derive(Clone, Copy)]
 pub enum Op {
     Load(u8),
     Branch(u8),
@@ -53,7 +53,7 @@ pub enum Op {
 
 // How code ends: a call is walked instead; a call becomes a forward to a term; a node has alternatives; failed, misfit; the
 // code is no compiler's; no node is left.
-#[derive(Drop)]
+#[derive(Clone, Copy)]
 pub enum Stop {
     Demand(NodeNo),
     Becomes(NodeNo, NodeNo),
@@ -66,28 +66,28 @@ pub enum Stop {
 
 // What an instruction gives: the registers, whether the code goes on, and how it ends if not. A flag and not a case of its own,
 // so that compiled code keeps it out of memory.
-#[derive(Drop)]
+#[derive(Clone, Copy)]
 pub struct Ran {
     pub regs: Regs,
     pub goes: bool,
     pub stop: Stop,
 }
 
-#[derive(Drop)]
+#[derive(Clone, Copy)]
 pub struct Ended {
     pub regs: Regs,
     pub stop: Stop,
 }
 
 // A BRANCH's arm for a constructor.
-#[derive(Drop)]
+#[derive(Clone, Copy)]
 pub enum Arm {
     None,
     Of(u16),
 }
 
 // Which function what is seen calls.
-#[derive(Drop)]
+#[derive(Clone, Copy)]
 pub enum Called {
     Nothing,
     Fun(FunNo),

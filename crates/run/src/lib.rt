@@ -14,7 +14,7 @@ mod whole;
 pub use whole::run;
 
 // The node limit, the pool limit, the budget, the results room and the code room.
-#[derive(Drop)]
+#[derive(Clone, Copy)]
 pub struct Limits {
     pub nodes: usize,
     pub pool: usize,
@@ -25,7 +25,7 @@ pub struct Limits {
 
 // The pool is empty; the budget is used; the node limit, the pool limit, the results room would be passed; limits or lent memory refused; the book, the question
 // refused, with the fault's sort and place; the code too long.
-#[derive(Drop)]
+#[derive(Clone, Copy)]
 pub enum Answer {
     Emptied,
     Spent,
@@ -39,7 +39,7 @@ pub enum Answer {
 }
 
 // The answer, the seven counts, and how many bytes of results are written.
-#[derive(Drop)]
+#[derive(Clone, Copy)]
 pub struct Outcome {
     pub answer: Answer,
     pub turns: usize,
@@ -53,7 +53,7 @@ pub struct Outcome {
 }
 
 // A run between its turns: the front's place and how many wait, the nodes made, the other counts, and how many bytes of results are written.
-#[derive(Drop)]
+#[derive(Clone, Copy)]
 pub struct State {
     pub head: usize,
     pub waiting: usize,
@@ -68,14 +68,14 @@ pub struct State {
 }
 
 // What comes of a step: the run ends with an answer, or goes on.
-#[derive(Drop)]
+#[derive(Clone, Copy)]
 pub enum Stepped {
     Ended(Answer),
     On(State),
 }
 
 // The answer, and the state at which it is given.
-#[derive(Drop)]
+#[derive(Clone, Copy)]
 pub struct Done {
     pub answer: Answer,
     pub state: State,

@@ -7,11 +7,11 @@ ghost use Rattle.store.specs.Regions.{node_bound, Room, graph_of, arg_words, mar
 
 use book::{ConNo, FunNo};
 
-#[derive(Drop)]
+#[derive(Clone, Copy)]
 pub struct NodeNo(pub u16);
 
 // What stands at a node: its symbol and how many arguments it has.
-#[derive(Drop)]
+#[derive(Clone, Copy)]
 pub enum Seen {
     Var,
     Con(ConNo, u16),
@@ -20,14 +20,14 @@ pub enum Seen {
 }
 
 // What a cell is made with.
-#[derive(Drop)]
+#[derive(Clone, Copy)]
 pub enum Head {
     Makes(ConNo),
     Calls(FunNo),
 }
 
 // A frame of a walk: a node, and the argument that comes next.
-#[derive(Drop)]
+#[derive(Clone, Copy)]
 pub struct Top {
     pub node: NodeNo,
     pub next: u16,

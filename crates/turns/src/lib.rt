@@ -14,7 +14,7 @@ use pool::Held;
 
 // What comes of a turn: the computation goes on; has so many alternatives, in the scratch rows; its result is to be written; it
 // failed; it was a misfit; no node was left; the definition's own bound ran out, which never comes.
-#[derive(Drop)]
+#[derive(Clone, Copy)]
 pub enum What {
     Went,
     Split(usize),
@@ -26,7 +26,7 @@ pub enum What {
 }
 
 // And how many nodes are made then, and the top + 1 of the stack of a computation that goes on.
-#[derive(Drop)]
+#[derive(Clone, Copy)]
 pub struct Turned {
     pub what: What,
     pub made: usize,
@@ -34,7 +34,7 @@ pub struct Turned {
 }
 
 // Where a turn begins: whether there is a call, and the stack's top + 1, which is that call.
-#[derive(Drop)]
+#[derive(Clone, Copy)]
 pub struct Began {
     pub calls: bool,
     pub top: u16,
