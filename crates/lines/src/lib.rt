@@ -1,11 +1,15 @@
 // How an outcome of the run is printed, for the programs.
 // Here, in order: an answer's number and its place; a line's nine numbers; bytes in lower-case hex.
-// Not here: the run (crate run), what is read (the programs). No contract can say what is written.
+// Not here: the run (crate run), what is read (the programs).
+#![tactic(auto)]
+
 ghost use Rattle.std.specs.Prelude.{◌≡◌, ◌≤◌, min, length};
 ghost use Rattle.engine.specs.Run.{number_of, place_of};
 ghost use Rattle.run.specs.Given.{answer_is};
 
 use run::{Answer, Outcome};
+use std::io;
+use std::io::Write;
 
 // The paper's number of an answer.
 pub fn number(a: Answer) -> u64
@@ -42,23 +46,23 @@ pub fn place(a: Answer) -> usize
 }
 
 // One space, then a count.
-fn next(n: u64) {
-    io::write_all(1, b" ");
-    io::print_decimal(1, n);
+fn next<W: Write>(out: &mut W, n: u64) -> io::Result<()> {
+    write!(out, " {n}")
 }
 
 // The answer, the place and the seven counts, one space between.
-pub fn print_told(o: Outcome) {
+pub fn print_told<W: Write>(out: &mut W, o: Outcome) -> io::Result<()> {
     let a = o.answer;
-    io::print_decimal(1, number(a));
-    next(place(a) as u64);
-    next(o.turns as u64);
-    next(o.nodes);
-    next(o.begun as u64);
-    next(o.split as u64);
-    next(o.values as u64);
-    next(o.failed as u64);
-    next(o.misfits as u64);
+    let n = number(a);
+    write!(out, "{n}")?;
+    next(out, place(a) as u64)?;
+    next(out, o.turns as u64)?;
+    next(out, o.nodes)?;
+    next(out, o.begun as u64)?;
+    next(out, o.split as u64)?;
+    next(out, o.values as u64)?;
+    next(out, o.failed as u64)?;
+    next(out, o.misfits as u64)
 }
 
 // The smaller of two numbers.
@@ -93,22 +97,23 @@ fn spell(bytes: &[u8], n: usize, out: &mut [u8])
 }
 
 // The first 2,048 bytes, or as many as there are, in hex, by one write.
-fn print_part(bytes: &[u8]) {
+fn print_part<W: Write>(out: &mut W, bytes: &[u8]) -> io::Result<()> {
     let n = least(bytes.len(), 2048);
-    let mut space = io::buffer();
+    let mut space = [0u8; 4096];
     spell(bytes, n, &mut space);
-    io::write_all(1, &space[..2 * n]);
+    out.write_all(&space[..2 * n])
 }
 
 // Bytes in lower-case hex, two digits each, a part of them at a time.
-pub fn print_hex(bytes: &[u8]) {
+pub fn print_hex<W: Write>(out: &mut W, bytes: &[u8]) -> io::Result<()> {
     let mut at = 0;
     while at < bytes.len() {
-        print_part(&bytes[at..]);
+        print_part(out, &bytes[at..])?;
         at = if bytes.len() - at < 2048 {
             bytes.len()
         } else {
             at + 2048
         };
     }
+    Ok(())
 }
