@@ -97,7 +97,7 @@ class Turn:
             for new, old, path in arms[2]:
                 if norm(old) == norm(step[0]) and rest[:len(path)] == path and (best is None or len(path) > len(best[1])):
                     best = (new, path)
-            if best and (best[1] or not rest):
+            if best:
                 tail = rest[len(best[1]):]
                 if best[0] == "ensures" and callee is None:
                     # the clauses of the call that was matched on

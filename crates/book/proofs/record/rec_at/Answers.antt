@@ -11,7 +11,7 @@ pub returns-then-left-ge3 : goal.returns-then-left-ge3
 returns-then-left-ge3 c = rec-two _ _ c.if-s-at.false c.in-4.is c.if-left-ge3.true
 
 pub returns-then-left-ge2 : goal.returns-then-left-ge2
-returns-then-left-ge2 c = rec_one _ _ c.if-s-at.false c.if-kind-lt1.false c.if-kind-lt11.true c.in_default-1.rest.1 c.if-left-ge2.true
+returns-then-left-ge2 c = rec_one _ _ c.if-s-at.false (omega arith) (omega arith) (λ q. omega arith) c.if-left-ge2.true
 
 pub returns-in-11 : goal.returns-in-11
 returns-in-11 c = rec-none _ _ c.if-s-at.false c.in-11.is
@@ -20,10 +20,10 @@ pub returns-else-left-ge3 : goal.returns-else-left-ge3
 returns-else-left-ge3 c = rec-two-cut _ _ c.if-s-at.false c.in-4.is c.if-left-ge3.false
 
 pub returns-else-left-ge2 : goal.returns-else-left-ge2
-returns-else-left-ge2 c = rec-one-cut _ _ c.if-s-at.false c.if-kind-lt1.false c.if-kind-lt11.true c.in_default-1.rest.1 c.if-left-ge2.false
+returns-else-left-ge2 c = rec-one-cut _ _ c.if-s-at.false (omega arith) (omega arith) (λ q. omega arith) c.if-left-ge2.false
 
 pub returns-in_default : goal.returns-in_default
-returns-in_default c = sym (rec-unknown _ _ c.if-s-at.false (body-zero _ c.if-kind-lt1.true))
+returns-in_default c = sym (rec-unknown _ _ c.if-s-at.false (body-zero _ (omega arith)))
 
 pub returns-in_default-2 : goal.returns-in_default-2
-returns-in_default-2 c = sym (rec-unknown _ _ c.if-s-at.false (body-over _ (omega (arith, c.in_default-1.rest.0.1))))
+returns-in_default-2 c = sym (rec-unknown _ _ c.if-s-at.false (body-over _ (omega arith)))

@@ -26,4 +26,4 @@ pub returns-in-8 : goal.returns-in-8
 returns-in-8 c = head-fun _ _ _ _ c.rec_at-r.ensures c.in-Of.is (lt-ltb 0 c.args.room (omega (arith, c.if-room-eq0.false))) c.in-8.is c.fun_arity.ensures c.named-in-8.ensures
 
 pub returns-in_default : goal.returns-in_default
-returns-in_default c = head-var _ _ _ _ c.rec_at-r.ensures c.in-Of.is (lt-ltb 0 c.args.room (omega (arith, c.if-room-eq0.false))) (let m = c.in_default.rest in omega (arith, m.1, m.0.1, c.if-kind-lt7.false, c.if-kind-gt10.false, c.if-kind-eq9.false)) c.below.ensures
+returns-in_default c = head-var _ _ _ _ c.rec_at-r.ensures c.in-Of.is (lt-ltb 0 c.args.room (omega (arith, c.if-room-eq0.false))) (omega arith) c.below.ensures

@@ -37,7 +37,7 @@ pub read_tree-returns-in-11 : goal.read_tree-returns-in-11
 read_tree-returns-in-11 t c = tree-nil _ _ _ _ _ c.rec_at-r.ensures c.in-Of.is c.in-11.is
 
 pub read_tree-returns-in_default-kind : goal.read_tree-returns-in_default-kind
-read_tree-returns-in_default-kind t c = tree-odd _ _ _ _ _ c.rec_at-r.ensures c.in-Of.is c.in_default-kind-own.rest.0.0.1 c.in_default-kind-own.rest.0.1 c.in_default-kind-own.rest.1
+read_tree-returns-in_default-kind t c = tree-odd _ _ _ _ _ c.rec_at-r.ensures c.in-Of.is (λ q. omega arith) (λ q. omega arith) (λ q. omega arith)
 
 pub read_trees-loop-left-init : goal.read_trees-loop-left-init
 read_trees-loop-left-init t c = trees-start _ _ _ _ _ _ _ _ _ _ c.requires.all_fit
