@@ -17,7 +17,7 @@ pub meet-k-requires : goal.meet-k-requires
 meet-k-requires c = record { room = c.requires.room; walkable = rw c.arg-h.ensures (c.requires.under _ (omega (arith, c.arguments-a.ensures))) }
 
 pub returns-in_default : goal.returns-in_default
-returns-in_default c = scan-ends _ _ _ _ _ (omega (arith, c.arguments-a.ensures)) c.arg-h.ensures c.loop-j.invariant.1 c.meet-k.result c.in_default.keys2 c.meet-k.ensures
+returns-in_default c = scan-ends _ _ _ _ _ (omega (arith, c.arguments-a.ensures)) c.arg-h.ensures c.loop-j.invariant.1 c.meet-k.result c.in_default.in_default-own.keys2 c.meet-k.ensures
 
 pub loop-j-smaller : goal.loop-j-smaller
 loop-j-smaller c = omega arith

@@ -35,5 +35,5 @@ unfolding seen_of
 returns-in-2 c = sym (what b ∙ ap (seen_by b) c.in-2.is ∙ ap (Call (record { 0 = c.get-head.result % 256 })) (sym (c.count_of-in-2.ensures ∙ ap (λ (k : ℕ). k % 9) c.get-in-2.ensures)))
 
 pub returns-in_default : goal.returns-in_default
-returns-in_default c = let r = c.in_default.rest in
+returns-in_default c = let r = c.in_default.in_default-own.rest in
     sym (what c.before.before ∙ seen-rest _ _ _ _ r.0.0.1 r.0.1 r.1 ∙ ap (λ (k : ℕ). Fwd (record { 0 = k })) (sym c.get-in_default.ensures))

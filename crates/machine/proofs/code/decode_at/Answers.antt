@@ -47,4 +47,4 @@ pub returns-in-60 : goal.returns-in-60
 returns-in-60 c = op-fail _ _ c.requires.pc_in_bounds c.in-60.is
 
 pub returns-in_default : goal.returns-in_default
-returns-in_default c = op-wrong _ _ c.requires.pc_in_bounds (outside _ c.in_default.rest.0.0.0.0.0.0.0.0.0.0.0.0.1 c.in_default.rest.0.0.0.0.0.0.0.0.0.0.0.1 c.in_default.rest.0.0.0.0.0.0.0.0.0.0.1 c.in_default.rest.0.0.0.0.0.0.0.0.0.1 c.in_default.rest.0.0.0.0.0.0.0.0.1 c.in_default.rest.0.0.0.0.0.0.0.1 c.in_default.rest.0.0.0.0.0.0.1 c.in_default.rest.0.0.0.0.0.1 c.in_default.rest.0.0.0.0.1 c.in_default.rest.0.0.0.1 c.in_default.rest.0.0.1 c.in_default.rest.0.1 c.in_default.rest.1)
+returns-in_default c = op-wrong _ _ c.requires.pc_in_bounds (outside _ c.in_default.in_default-own.rest.0.0.0.0.0.0.0.0.0.0.0.0.1 c.in_default.in_default-own.rest.0.0.0.0.0.0.0.0.0.0.0.1 c.in_default.in_default-own.rest.0.0.0.0.0.0.0.0.0.0.1 c.in_default.in_default-own.rest.0.0.0.0.0.0.0.0.0.1 c.in_default.in_default-own.rest.0.0.0.0.0.0.0.0.1 c.in_default.in_default-own.rest.0.0.0.0.0.0.0.1 c.in_default.in_default-own.rest.0.0.0.0.0.0.1 c.in_default.in_default-own.rest.0.0.0.0.0.1 c.in_default.in_default-own.rest.0.0.0.0.1 c.in_default.in_default-own.rest.0.0.0.1 c.in_default.in_default-own.rest.0.0.1 c.in_default.in_default-own.rest.0.1 c.in_default.in_default-own.rest.1)

@@ -20,7 +20,7 @@ pub shape_of-work-in-Ended : goal.shape_of-work-in-Ended
 shape_of-work-in-Ended c = c.step-r.auto.work ∙ c.loop-left.invariant.1
 
 pub shape_of-results-in-Ended : goal.shape_of-results-in-Ended
-shape_of-results-in-Ended c = c.step-r.auto.1.1.0 ∙ c.loop-left.invariant.2
+shape_of-results-in-Ended c = c.step-r.auto.results ∙ c.loop-left.invariant.2
 
 pub returns-in-Ended : goal.returns-in-Ended
 returns-in-Ended c = going_done _ _ _ _ _ _ _ _ _ _ _ _ (omega (arith, c.loop-left-test.true)) c.loop-left.invariant.0 _ _ c.in-Ended.is c.step-r.ensures
@@ -32,7 +32,7 @@ pub loop-left-smaller : goal.loop-left-smaller
 loop-left-smaller c = omega (arith, c.loop-left-test.true)
 
 pub loop-left-preserved : goal.loop-left-preserved
-loop-left-preserved c = (going-past _ _ _ _ _ _ _ _ _ _ _ _ (omega (arith, c.loop-left-test.true)) c.loop-left.invariant.0 _ _ c.in-On.is c.step-r.ensures, c.step-r.auto.work ∙ c.loop-left.invariant.1, c.step-r.auto.1.1.0 ∙ c.loop-left.invariant.2)
+loop-left-preserved c = (going-past _ _ _ _ _ _ _ _ _ _ _ _ (omega (arith, c.loop-left-test.true)) c.loop-left.invariant.0 _ _ c.in-On.is c.step-r.ensures, c.step-r.auto.work ∙ c.loop-left.invariant.1, c.step-r.auto.results ∙ c.loop-left.invariant.2)
 
 pub shape_of-work : goal.shape_of-work
 shape_of-work c = c.loop-left.invariant.1

@@ -12,10 +12,10 @@ pub compile_into-c-requires : goal.compile_into-c-requires
 compile_into-c-requires c = (c.requires.lent, c.requires.most, tables-room _ _ _ c.requires)
 
 pub end_at_counts-requires : goal.end_at_counts-requires
-end_at_counts-requires c = ending-room _ _ _ c.requires c.compile_into-c.new.code c.compile_into-c.auto.code
+end_at_counts-requires c = ending-room _ _ _ c.requires c.compile_into-c.new.tables c.compile_into-c.auto.tables
 
 pub returns-in-Fits : goal.returns-in-Fits
-returns-in-Fits c = set-fits _ _ _ c.requires _ c.compile_into-c.auto.code _ _ _ _ (does-fit _ _ _ _ _ _ _ _ c.compile_into-c.ensures c.in-Fits.is) c.end_at_counts.ensures
+returns-in-Fits c = set-fits _ _ _ c.requires _ c.compile_into-c.auto.tables _ _ _ _ (does-fit _ _ _ _ _ _ _ _ c.compile_into-c.ensures c.in-Fits.is) c.end_at_counts.ensures
 
 pub returns-in-TooLong : goal.returns-in-TooLong
 returns-in-TooLong c = set_long _ _ _ _ _ _ _ _ c.compile_into-c.ensures c.in-TooLong.is

@@ -41,4 +41,4 @@ pub run_accepted-requires : goal.run_accepted-requires
 run_accepted-requires c = part-passed _ _ _ _ _ _ (fine c.before.before.before.before) _ (slice-relend-prefix-run-accepted c.before.before.before) (omega (arith, enough c.before.before.before.before, c.work_size-size.ensures))
 
 pub returns-in-Accepted : goal.returns-in-Accepted
-returns-in-Accepted c = ran-part _ _ _ _ _ _ (fine c.before.before.before.before.before.before.before.before.before.before.before) _ c.work_size-size.ensures _ _ _ _ c.run_accepted.auto.1.1.1.0 c.run_accepted.ensures
+returns-in-Accepted c = ran-part _ _ _ _ _ _ (fine c.before.before.before.before.before.before.before.before.before.before.before) _ c.work_size-size.ensures _ _ _ _ c.run_accepted.auto.code c.run_accepted.ensures

@@ -17,7 +17,7 @@ pub ask-d-requires : goal.ask-d-requires
 ask-d-requires c = record { roomy = roomy _ _ _ _ _ _ c.requires _ _ _ _ c.set_up-s.ensures c.in-Fits.is; code_len_bound = code-short _ _ _ _ _ _ c.requires _ _ _ _ c.set_up-s.ensures c.in-Fits.is; asks = asks _ _ _ _ _ _ c.requires _ _ _ _ c.set_up-s.ensures c.in-Fits.is }
 
 pub returns-in-Fits : goal.returns-in-Fits
-returns-in-Fits c = gives-asked _ _ _ _ _ _ c.requires _ _ _ _ c.set_up-s.ensures c.in-Fits.is _ _ _ _ c.ask-d.ensures c.ask-d.auto.1.1.0 c.give.ensures
+returns-in-Fits c = gives-asked _ _ _ _ _ _ c.requires _ _ _ _ c.set_up-s.ensures c.in-Fits.is _ _ _ _ c.ask-d.ensures c.ask-d.auto.results c.give.ensures
 
 pub returns-in-TooLong : goal.returns-in-TooLong
 returns-in-TooLong c = gives-long _ _ _ _ _ _ c.requires _ _ _ _ _ c.set_up-s.ensures c.in-TooLong.is c.refuse.ensures
