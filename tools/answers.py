@@ -222,7 +222,7 @@ class Turn:
                 self.say(f"a place as a value: {m[0]}")
                 return m[0]
             return told
-        text = PATH.sub(turn, text)
+        text = PATH.sub(turn, text).replace("c.well-formed", "c.well_formed")
         for a in alias:
             if a != "c" and re.search(rf"(?<![\w'.₀-₉-]){re.escape(a)}(?![\w'.₀-₉-])", text):
                 self.say(f"a place as a value: {a}")

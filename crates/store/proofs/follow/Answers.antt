@@ -1,5 +1,6 @@
 use native.Mathlib.Omega.{arith}
 use borrow.Author.Rules.{rules}
+use borrow.Enum.Refused.{opened}
 use mathlib.Core.Path.{◌≡◌, refl, sym, ◌∙◌}
 use Rattle.heap.specs.Graph.{deref}
 use Rattle.store.specs.Regions.{graph_of}
@@ -13,7 +14,7 @@ pub returns-then-at-limit : goal.returns-then-at-limit
 returns-then-at-limit c = sym (deref-past _ _ _ (rw length-graph (omega arith))) ∙ c.loop-left.invariant ∙ sym (follow-is _ _ _)
 
 pub returns-in_default : goal.returns-in_default
-returns-in_default c = sym (deref-stop _ _ _ _ c.loop-left-test.true c.look-k.ensures c.in_default.in_default-own.keys2) ∙ c.loop-left.invariant ∙ sym (follow-is _ _ _)
+returns-in_default c = sym (deref-stop _ _ _ _ c.loop-left-test.true c.look-k.ensures (opened c.in_default.in_default-own.keys2)) ∙ c.loop-left.invariant ∙ sym (follow-is _ _ _)
 
 pub overflow_sub-left : goal.overflow_sub-left
 overflow_sub-left c = omega arith

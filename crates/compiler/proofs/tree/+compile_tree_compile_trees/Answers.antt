@@ -102,7 +102,7 @@ pub compile_trees-overflow_add-con : goal.compile_trees-overflow_add-con
 compile_trees-overflow_add-con t c = let h = still c.loop-left.invariant c.requires in omega (arith, c.loop-left-test.true, h.cons)
 
 pub compile_trees-overflow_add-go : goal.compile_trees-overflow_add-go
-compile_trees-overflow_add-go t c = omega (arith, (child-is c.loop-left.invariant c.requires c.wide-a.ensures c.loop-left-test.true).go-room, c.loop-left.invariant.long, c.well-formed.1.1.1.1.1.1.1.1.1.0.0)
+compile_trees-overflow_add-go t c = omega (arith, (child-is c.loop-left.invariant c.requires c.wide-a.ensures c.loop-left-test.true).go-room, c.loop-left.invariant.long, c.well_formed.1.1.1.1.1.1.1.1.1.0.0)
 
 pub compile_trees-overflow_sub-left : goal.compile_trees-overflow_sub-left
 compile_trees-overflow_sub-left t c = c.loop-left-test.true
