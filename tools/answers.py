@@ -16,7 +16,8 @@ PATH = re.compile(rf"(?<![\w'.₀-₉-])([A-Za-z_][\w'₀-₉-]*)((?:\.[\w'₀-�
 
 
 def norm(name):
-    return re.sub(r"^overflow_", "", name.replace("-", "_"))
+    # (port.py gave some names of facts a capital, and some of functions an ending)
+    return re.sub(r"^overflow_|_lem$", "", name.replace("-", "_").lower())
 
 
 def signatures(root):

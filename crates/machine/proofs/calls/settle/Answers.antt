@@ -19,10 +19,10 @@ pub node_at-k-requires : goal.node_at-k-requires
 node_at-k-requires c = c.requires
 
 pub returns-in-Fun : goal.returns-in-Fun
-returns-in-Fun c = settling-call c.loop-left.invariant _ _ (omega arith) c.follow-at.ensures c.Node-at.ensures _ _ c.called-call.ensures c.in-Fun.is
+returns-in-Fun c = settling-call c.loop-left.invariant _ _ (omega arith) c.follow-at.ensures c.node_at-k.ensures _ _ c.called-call.ensures c.in-Fun.is
 
 pub returns-then-n-limit : goal.returns-then-n-limit
-returns-then-n-limit c = settling-past c.loop-left.invariant _ _ (omega arith) c.follow-at.ensures c.Node-at.ensures _ c.called-call.ensures c.in_default.is c.requires.1 c.if-n-limit.true
+returns-then-n-limit c = settling-past c.loop-left.invariant _ _ (omega arith) c.follow-at.ensures c.node_at-k.ensures _ c.called-call.ensures c.in_default.is c.requires.1 c.if-n-limit.true
 
 pub get_link-t-requires : goal.get_link-t-requires
 get_link-t-requires c = record { room = c.requires; n_lt_limit = c.if-n-limit.false }
@@ -34,7 +34,7 @@ pub loop-left-smaller : goal.loop-left-smaller
 loop-left-smaller c = omega arith
 
 pub loop-left-preserved : goal.loop-left-preserved
-loop-left-preserved c = settling-next c.loop-left.invariant _ _ (omega arith) c.follow-at.ensures c.Node-at.ensures _ _ c.called-call.ensures c.in_default.is (omega arith) c.get_link-t.ensures
+loop-left-preserved c = settling-next c.loop-left.invariant _ _ (omega arith) c.follow-at.ensures c.node_at-k.ensures _ _ c.called-call.ensures c.in_default.is (omega arith) c.get_link-t.ensures
 
 pub returns : goal.returns
 returns c = settling-out c.loop-left.invariant (omega arith)
