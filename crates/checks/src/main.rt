@@ -23,6 +23,7 @@ fn wide(x: u8) -> usize
 }
 
 // The paper's number of a verdict.
+#[tactic(auto, unfolding(book::specs::Answers::told_of))]
 fn answer(v: Verdict) -> u64
     ensures { result ≡ answer_of (told_of v) }
 {
@@ -34,6 +35,7 @@ fn answer(v: Verdict) -> u64
 }
 
 // The place that a verdict gives.
+#[tactic(auto, unfolding(book::specs::Answers::told_of))]
 fn place(v: Verdict) -> usize
     ensures { result ≡ place_of (told_of v) }
 {
