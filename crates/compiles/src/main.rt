@@ -57,12 +57,7 @@ fn show(bytes: &[u8], at: usize, n: usize, chunk: &mut [u8])
 }
 
 // The first n bytes, in hex.
-fn print_bytes<W: Write>(
-    out: &mut W,
-    bytes: &[u8],
-    n: usize,
-    chunk: &mut [u8],
-) -> io::Result<()>
+fn print_bytes<W: Write>(out: &mut W, bytes: &[u8], n: usize, chunk: &mut [u8]) -> io::Result<()>
     requires { (n ≤ length bytes.now) × (length chunk.old ≡ 4096) }
 {
     let mut at = 0;
@@ -77,12 +72,7 @@ fn print_bytes<W: Write>(
 }
 
 // The same, if there are so many.
-fn print_some<W: Write>(
-    out: &mut W,
-    bytes: &[u8],
-    n: usize,
-    chunk: &mut [u8],
-) -> io::Result<()>
+fn print_some<W: Write>(out: &mut W, bytes: &[u8], n: usize, chunk: &mut [u8]) -> io::Result<()>
     requires { length chunk.old ≡ 4096 }
 {
     if bytes.len() < n {
