@@ -47,6 +47,7 @@ fn limits(head: &[u8]) -> Limits
 }
 
 // The numbers of the next case.
+#[tactic(auto, unfolding(crate::specs::Whole::HeadIs))]
 pub fn read_head<R: Read>(input: &mut R) -> io::Result<Head>
     ensures { IfOk result HeadIs }
 {
@@ -117,6 +118,7 @@ fn pass_rest<R: Read>(input: &mut R, p: Passed, n: usize) -> io::Result<Rest>
 }
 
 // Of a part's m bytes, by the first pass over it, how many are no record that goes on behind it.
+#[tactic(auto, unfolding(crate::specs::Whole::whole_part))]
 fn whole_part(p: Passed, m: usize) -> usize
     ensures { result ≡ whole_part p m }
 {
@@ -145,11 +147,7 @@ fn look_on<R: Read>(input: &mut R, part: &[u8], q: usize) -> io::Result<Question
 }
 
 // Reads a question of q bytes, of which it keeps what there is room for.
-pub fn read_question<R: Read>(
-    input: &mut R,
-    q: usize,
-    question: &mut [u8],
-) -> io::Result<Question>
+pub fn read_question<R: Read>(input: &mut R, q: usize, question: &mut [u8]) -> io::Result<Question>
     requires { (771 ≤ length question.old) × (q < 4294967296) }
     ensures { IfOk result (QuestionIs question.new q) }
 {

@@ -20,6 +20,7 @@ use std::io;
 use std::io::Read;
 
 // A question's fault: that of the first pass over all of it, if there is one.
+#[tactic(auto, unfolding(crate::specs::Whole::first, crate::specs::Parts::found, run::specs::Given::answer_is))]
 fn first_fault(p: Passed, w: Sort, at: usize) -> Answer
     ensures { answer_is result ≡ first (found p) w at }
 {
@@ -31,6 +32,7 @@ fn first_fault(p: Passed, w: Sort, at: usize) -> Answer
 }
 
 // An answer, by the first pass over all of the question.
+#[tactic(auto, unfolding(crate::specs::Whole::settled, run::specs::Given::answer_is))]
 fn settle(a: Answer, p: Passed) -> Answer
     ensures { answer_is result ≡ settled (found p) (answer_is a) }
 {
@@ -75,6 +77,7 @@ pub fn run_case(
 }
 
 // The work memory that limits ask; for limits out of range, which are refused whatever is lent, no more than the largest ask.
+#[tactic(auto, unfolding(engine::specs::Run::work_size))]
 pub fn work_size(l: Limits) -> usize
     ensures { (l.nodes ≤ 16384) × (l.pool ≤ 1024) → result ≡ work_size (limits_of l) }
 {
