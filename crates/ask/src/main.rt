@@ -43,12 +43,7 @@ fn refuse<W: Write>(out: &mut W) -> io::Result<()> {
 }
 
 // The run of a question: work memory is 40 x 1,600 + 40 x 64 + 8,192 bytes.
-fn judge<W: Write>(
-    alloc: Global,
-    out: &mut W,
-    book: &[u8],
-    question: &[u8],
-) -> io::Result<()> {
+fn judge<W: Write>(alloc: Global, out: &mut W, book: &[u8], question: &[u8]) -> io::Result<()> {
     let mut work = vec![in alloc; 0u8; 74752]?;
     let mut code = vec![in alloc; 0u8; 16384]?;
     let mut results = vec![in alloc; 0u8; 4096]?;

@@ -143,7 +143,13 @@ fn check_guards<W: Write>(
 {
     let a = check_sides(out, work, s.work, b"work before; ", b"work after; ")?;
     let b = check_sides(out, code, s.code, b"code before; ", b"code after; ")?;
-    let c = check_sides(out, results, s.results, b"results before; ", b"results after; ")?;
+    let c = check_sides(
+        out,
+        results,
+        s.results,
+        b"results before; ",
+        b"results after; ",
+    )?;
     Ok(a && b && c)
 }
 
