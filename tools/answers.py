@@ -425,13 +425,15 @@ def one(path, d, fn, sigs, crate):
             if w != g and w.rstrip("₀") != g.rstrip("₀"):
                 t.say(f"{m[1]}: {g} stands for {w}")
         body = b[m.end():]
+        rec = "l" if not re.search(r"(?<![\w'.₀-₉-])l(?![\w'₀-₉-])", body) else "at_turn"
+        mean = {g: rec + w[1:] for g, w in mean.items()}
         binders = set(re.findall(r"λ ([^.]*)\.", body) and " ".join(re.findall(r"λ ([^.]*)\.", body)).split())
         for g in re.findall(r"\(([^()]*?) : ", body):
             binders |= set(g.split())
         for g in binders & set(mean):
             t.say(f"{m[1]}: {g} is bound again")
         body = re.sub(r"(?<![\w'.₀-₉-])([A-Za-z_][\w'₀-₉]*(?:-[\w'₀-₉]+)*)(?![\w'₀-₉-])", lambda x: mean.get(x[1], x[1]), body)
-        invs.append(f"abbrev pub {kind}-{new} : goal.{kind}-{new}\n{m[3]}{kind}-{new} l = {body}")
+        invs.append(f"abbrev pub {kind}-{new} : goal.{kind}-{new}\n{m[3]}{kind}-{new} {rec} = {body}")
     mod = None
     for u in uses:
         x = re.match(r"use (Rattle\.\S+)\.Statement\.\{statement\}", u)
