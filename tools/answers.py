@@ -79,6 +79,8 @@ class Turn:
         """The new path of old fields below a place."""
         parent, step, callee, i = self.places[place]
         seg0, rest = segs[0], segs[1:]
+        if place == "Start" and seg0 not in ("args", "requires", "lifetimes", "ranges", "well-formed", "well_formed"):
+            return None
         if place == "Start" or seg0 in ("args", "requires", "lifetimes", "ranges"):
             if seg0 == "requires":
                 names = self.sigs[self.fn]["requires"]
