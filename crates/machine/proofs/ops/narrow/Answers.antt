@@ -4,7 +4,7 @@ use borrow.Author.Rules.{rules}
 use Rattle.machine.proofs.ops.narrow.Goals as goal
 
 pub returns-then-not-regs : goal.returns-then-not-regs
-returns-then-not-regs c = narrow-lost _ _ _ _ _ c.requires.fine c.if-not-regs.true
+returns-then-not-regs c = narrow-lost _ _ _ _ _ c.requires.fine (refused _ c.if-not-regs.true)
 
 pub returns : goal.returns
-returns c = narrow-is _ _ _ _ _ c.requires.fine _ c.if-not-regs.false c.follow-at.ensures
+returns c = narrow-is _ _ _ _ _ c.requires.fine _ (passed _ c.if-not-regs.false) c.follow-at.ensures

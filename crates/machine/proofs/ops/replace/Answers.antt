@@ -8,7 +8,7 @@ pub returns-then-regs-eq0 : goal.returns-then-regs-eq0
 returns-then-regs-eq0 c = replace-empty _ _ _ _ _ c.requires.fine c.if-regs-eq0.true
 
 pub returns-then-not-regs : goal.returns-then-not-regs
-returns-then-not-regs c = replace-lost _ _ _ _ _ c.requires.fine (omega arith) c.if-not-regs.true
+returns-then-not-regs c = replace-lost _ _ _ _ _ c.requires.fine (omega arith) (refused _ c.if-not-regs.true)
 
 pub returns : goal.returns
-returns c = replace-is _ _ _ _ _ c.requires.fine _ (omega arith) c.if-not-regs.false c.follow-at.ensures
+returns c = replace-is _ _ _ _ _ c.requires.fine _ (omega arith) (passed _ c.if-not-regs.false) c.follow-at.ensures

@@ -9,16 +9,16 @@ pub build_question-b-requires : goal.build_question-b-requires
 build_question-b-requires c = build-asks _ _ _ _ _ c.requires.roomy _ c.clear.ensures c.requires.asks
 
 pub returns-then-not-b : goal.returns-then-not-b
-returns-then-not-b c = ask-none-at _ _ _ _ _ c.requires.roomy _ c.clear.ensures _ _ c.build_question-b.ensures c.if-not-b.true _ c.opening-none.ensures
+returns-then-not-b c = ask-none-at _ _ _ _ _ c.requires.roomy _ c.clear.ensures _ _ c.build_question-b.ensures (refused _ c.if-not-b.true) _ c.opening-none.ensures
 
 pub push-requires : goal.push-requires
-push-requires c = push-asks _ _ _ _ _ c.requires.roomy _ c.clear.ensures _ _ c.build_question-b.ensures c.if-not-b.false c.requires.asks
+push-requires c = push-asks _ _ _ _ _ c.requires.roomy _ c.clear.ensures _ _ c.build_question-b.ensures (passed _ c.if-not-b.false) c.requires.asks
 
 pub run_from-requires : goal.run_from-requires
-run_from-requires c = run-asks _ _ _ _ _ c.requires.roomy _ c.clear.ensures _ _ c.build_question-b.ensures c.if-not-b.false _ c.push.ensures _ c.opening-st.ensures c.requires.asks c.requires.code_len_bound
+run_from-requires c = run-asks _ _ _ _ _ c.requires.roomy _ c.clear.ensures _ _ c.build_question-b.ensures (passed _ c.if-not-b.false) _ c.push.ensures _ c.opening-st.ensures c.requires.asks c.requires.code_len_bound
 
 pub shape_of-work : goal.shape_of-work
 shape_of-work c = c.run_from.auto.work ∙ c.push.auto.s ∙ c.build_question-b.auto.s ∙ c.clear.auto.s
 
 pub returns : goal.returns
-returns c = ask-run _ _ _ _ _ c.requires.roomy _ c.clear.ensures _ _ c.build_question-b.ensures c.if-not-b.false _ c.push.ensures _ c.opening-st.ensures _ _ c.run_from.ensures
+returns c = ask-run _ _ _ _ _ c.requires.roomy _ c.clear.ensures _ _ c.build_question-b.ensures (passed _ c.if-not-b.false) _ c.push.ensures _ c.opening-st.ensures _ _ c.run_from.ensures

@@ -11,8 +11,8 @@ put_result-p-requires c = record { room = c.requires.room; reads = c.requires.re
 
 pub returns-then-not-p : goal.returns-then-not-p
 unfolding roots_of
-returns-then-not-p c = value_none _ _ _ _ _ _ _ _ c.put_result-p.ensures c.if-not-p.true
+returns-then-not-p c = value_none _ _ _ _ _ _ _ _ c.put_result-p.ensures (refused _ c.if-not-p.true)
 
 pub returns : goal.returns
 unfolding roots_of
-returns c = value-all _ _ _ _ _ _ _ _ c.put_result-p.ensures c.if-not-p.false
+returns c = value-all _ _ _ _ _ _ _ _ c.put_result-p.ensures (passed _ c.if-not-p.false)

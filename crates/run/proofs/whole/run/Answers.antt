@@ -14,19 +14,19 @@ use Rattle.run.proofs.whole.run.Goals as goal
 
 module _ (c : goal.In-Accepted) where
   fine : Passed c.args.limits c.args.book.now c.args.question.now c.args.work.now c.args.code.now c.args.results.now
-  fine = all-passed _ _ _ _ _ _ _ c.fit.ensures c.if-not-fit.false _ c.check_question-v.ensures c.in-Accepted.is
+  fine = all-passed _ _ _ _ _ _ _ c.fit.ensures (passed _ c.if-not-fit.false) _ c.check_question-v.ensures c.in-Accepted.is
 
   enough : e.work_size (limits_of c.before.before.before.before.before.before.before.before.before.before.args.limits) ≤ length c.before.before.before.before.before.before.before.before.before.before.args.work.now
   enough = size-lent _ _ _ _ _ _ fine
 
 pub returns-then-not-fit : goal.returns-then-not-fit
-returns-then-not-fit c = ran-limits _ _ _ _ _ _ _ _ c.fit.ensures c.if-not-fit.true c.refuse.ensures
+returns-then-not-fit c = ran-limits _ _ _ _ _ _ _ _ c.fit.ensures (refused _ c.if-not-fit.true) c.refuse.ensures
 
 pub returns-in-BookFault : goal.returns-in-BookFault
-returns-in-BookFault c = ran-book _ _ _ _ _ _ _ c.fit.ensures c.if-not-fit.false _ _ _ _ c.check_question-v.ensures c.in-BookFault.is c.refuse-in-BookFault.ensures
+returns-in-BookFault c = ran-book _ _ _ _ _ _ _ c.fit.ensures (passed _ c.if-not-fit.false) _ _ _ _ c.check_question-v.ensures c.in-BookFault.is c.refuse-in-BookFault.ensures
 
 pub returns-in-QuestionFault : goal.returns-in-QuestionFault
-returns-in-QuestionFault c = ran-question _ _ _ _ _ _ _ c.fit.ensures c.if-not-fit.false _ _ _ _ c.check_question-v.ensures c.in-QuestionFault.is c.refuse-in-QuestionFault.ensures
+returns-in-QuestionFault c = ran-question _ _ _ _ _ _ _ c.fit.ensures (passed _ c.if-not-fit.false) _ _ _ _ c.check_question-v.ensures c.in-QuestionFault.is c.refuse-in-QuestionFault.ensures
 
 pub work_size-size-requires : goal.work_size-size-requires
 work_size-size-requires c = size-asks _ _ _ _ _ _ (fine c)
