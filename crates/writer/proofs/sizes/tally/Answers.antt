@@ -16,7 +16,7 @@ module _ (c : tie.After-weight invariant-loop decreases-loop) where
   on = onward-at _ _ _ _ c.before.before.before.before.before.before.loop-test.true c.before.before.before.before.before.before.before.before.before.requires.0 c.before.before.before.before.before.before.before.loop.invariant.0.kept c.before.before.before.before.before.before.before.loop.invariant.1 _ _ c.before.before.before.step.ensures
 
 pub loop-d-init : goal.loop-d-init
-loop-d-init c = (framed-none _ _, c.requires.Stood, refl, c.requires.room_bound.1, refl)
+loop-d-init c = (framed-none _ _, c.requires.stood, refl, c.requires.room_bound.1, refl)
 
 pub shape_of-s-then-n-room : goal.shape_of-s-then-n-room
 shape_of-s-then-n-room c = c.loop-d.invariant.4

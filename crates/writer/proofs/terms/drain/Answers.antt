@@ -24,7 +24,7 @@ module _ (c : tie.After-step invariant-loop decreases-loop) where
   kept = kept_then c.before.before.before.loop.invariant.0 c.step.ensures.framed.kept
 
 pub loop-d-init : goal.loop-d-init
-loop-d-init c = (kept-none _ _, c.requires.Stood, c.requires.table, refl, c.requires.s_in_bounds, refl, refl)
+loop-d-init c = (kept-none _ _, c.requires.stood, c.requires.table, refl, c.requires.s_in_bounds, refl, refl)
 
 pub overflow_sub-d : goal.overflow_sub-d
 overflow_sub-d c = omega arith
