@@ -14,7 +14,7 @@ tell-p-requires c = let T = c.visit-t.ensures in
 
 pub drain-requires : goal.drain-requires
 drain-requires c = let T = c.visit-t.ensures in let W = c.tell-p.ensures in
-    record { room = room-kept (term-kept _ _ _ _ _ _ _ c.requires.read T c.requires.h_in_bounds _ _ _ _ W) c.requires.room; Stood = term-stands _ _ _ _ _ _ _ c.requires.read T c.requires.h_in_bounds _ _ _ _ W; table = W.table; s_in_bounds = term-fit _ _ _ _ _ _ _ c.requires.read T c.requires.h_in_bounds _ _ _ _ W }
+    record { room = room-kept (term-kept _ _ _ _ _ _ _ c.requires.read T c.requires.h_in_bounds _ _ _ _ W) c.requires.room; stood = term-stands _ _ _ _ _ _ _ c.requires.read T c.requires.h_in_bounds _ _ _ _ W; table = W.table; s_in_bounds = term-fit _ _ _ _ _ _ _ c.requires.read T c.requires.h_in_bounds _ _ _ _ W }
 
 pub returns : goal.returns
 returns c = let T = c.visit-t.ensures in let W = c.tell-p.ensures in
