@@ -8,7 +8,7 @@ use Rattle.engine.specs.Compile.{compile}
 use Rattle.engine.specs.Machine as m
 use Rattle.engine.specs.Run as e
 use Rattle.agreement.proofs.Calls.{FineBook}
-use Rattle.standing.specs.Shared.{StoreNext, store_ends, store_next}
+use Rattle.standing.specs.Shared.{StoreNext}
 use Rattle.standing.specs.Moments.{shown, shown_next, store_shown, store_shown_next, StandsNext, both_end, both_go}
 use Rattle.standing.proofs.Moments.{stands-shown}
 use Rattle.run.specs.declared.State.{State}

@@ -1,9 +1,5 @@
 use native.Mathlib.Omega.{arith}
 use mathlib.Core.Path.{◌≡◌, refl, ◌∙◌}
-use Prim.Native.Nat.{◌-◌, ◌≤◌}
-use lib.ListN.{length}
-use Rattle.mem.specs.Words.{words}
-use Rattle.asking.specs.Question.{VarsPut}
 use Rattle.asking.proofs.Terms.{vars-none, vars-step}
 use Rattle.asking.proofs.put_vars.Goals as goal
 

@@ -1,6 +1,5 @@
 use native.Mathlib.Omega.{arith}
 use Rattle.asking.proofs.Terms.{fresh-stepped, cell-stepped}
-use borrow.Author.Rules.{rules}
 use Rattle.asking.proofs.step.Goals as goal
 
 pub returns-then-kind-eq10 : goal.returns-then-kind-eq10

@@ -1,9 +1,6 @@
 use native.Mathlib.Omega.{arith}
-use Prim.Native.Nat.{◌≤◌, ◌-◌, ◌*◌}
-use mathlib.Core.Path.{◌≡◌, refl, ◌∙◌}
-use lib.ListN.{length}
-use Rattle.mem.specs.Words.{words}
-use Rattle.copier.proofs.Copying.{Copying, copies-short, copying-start, copying-arg, copying-spot, copying-room, copying-step, copying-end}
+use mathlib.Core.Path.{refl, ◌∙◌}
+use Rattle.copier.proofs.Copying.{copies-short, copying-start, copying-arg, copying-spot, copying-room, copying-step, copying-end}
 use Rattle.copier.proofs.put_copy.Goals as goal
 
 pub put_head-requires : goal.put_head-requires

@@ -1,12 +1,10 @@
 use Prim.Native.Nat.{◌≤◌, ◌-◌}
-use mathlib.Core.Path.{◌≡◌, refl, ◌∙◌}
+use mathlib.Core.Path.{◌≡◌}
 use lib.ListN.{length}
 use Rattle.heap.specs.Graph.{sweep}
 use Rattle.store.specs.Regions.{graph_of}
 use Rattle.copier.specs.Listed.{seen_in}
-use Rattle.copier.proofs.Listing.{Owes, owes-sweep, owes-sweep-end, owes-ends}
-use Rattle.copier.proofs.Steps.{owes-start}
-use native.Mathlib.Omega.{arith}
+use Rattle.copier.proofs.Listing.{Owes}
 use Rattle.copier.proofs.see_below.Given as goal
 
 abbrev pub invariant-loop-i : goal.invariant-loop-i

@@ -1,13 +1,11 @@
 use native.Mathlib.Omega.{arith}
-use Prim.Native.Nat.{◌≤◌, ◌-◌}
-use mathlib.Core.Path.{◌≡◌, refl, sym, subst, ◌∙◌}
+use mathlib.Core.Path.{refl, sym, subst, ◌∙◌}
 use mathlib.Core.List.{List}
 use Prim.Native.Nat.{ℕ}
-use lib.ListN.{length, drop}
 use Rattle.heap.specs.Graph.{node, args, sight}
 use Rattle.store.specs.Regions.{graph_of}
 use Rattle.copier.specs.Listed.{seen_in, Ends, Saw}
-use Rattle.copier.proofs.Listing.{Owes, owes-sight-end, kept_refl}
+use Rattle.copier.proofs.Listing.{owes-sight-end, kept_refl}
 use Rattle.copier.proofs.Steps.{under-args, under-below, under-there, under-follow, under_next}
 use Rattle.copier.proofs.see_under.Goals as goal
 

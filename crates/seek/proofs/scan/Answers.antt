@@ -1,13 +1,7 @@
 -- The arguments one by one. The loop keeps that those passed are quiet.
 -- Assumes nothing.
-use Prim.Native.Nat.{ℕ, ◌≤◌, ◌<◌, ◌-◌}
 use native.Mathlib.Omega.{arith}
-use lib.ListN.{get_or}
-use Rattle.heap.specs.Graph.{node, args}
-use Rattle.store.specs.Regions.{graph_of, marks_of}
-use Rattle.seek.specs.Search.{IsQuiet}
 use Rattle.seek.proofs.Meets.{scan-ends, scan-more}
-use borrow.Author.Rules.{rules}
 use borrow.Enum.Refused.{opened}
 use Rattle.seek.proofs.scan.Goals as goal
 

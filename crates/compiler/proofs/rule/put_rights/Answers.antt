@@ -3,8 +3,7 @@ use mathlib.Core.Path.{refl, ap}
 use Rattle.compiler.proofs.Writing.{emits-long, emits-as}
 use Rattle.compiler.proofs.Loops.{vars-long, progress-long}
 use Rattle.compiler.specs.Rows.{vars_code}
-use Rattle.compiler.proofs.Rights.{Left, left-start, left-turns, left-none}
-use Rattle.compiler.specs.Here.{RightsHere}
+use Rattle.compiler.proofs.Rights.{left-start, left-turns, left-none}
 use Rattle.compiler.proofs.rule.put_rights.Goals as goal
 
 pub loop-left-init : goal.loop-left-init

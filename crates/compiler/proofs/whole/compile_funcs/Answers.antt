@@ -1,11 +1,7 @@
-use borrow.Author.Rules.{rules}
 use native.Mathlib.Omega.{arith}
-use mathlib.Core.Path.{◌≡◌, refl, sym, ◌∙◌}
-use Prim.Native.Nat.{◌+◌, ◌-◌}
-use lib.ListN.{length}
-use Rattle.mem.specs.Words.{words}
-use Rattle.compiler.specs.Here.{FuncsHere}
-use Rattle.compiler.proofs.Funcs.{Left, left-start, left_end, left-turns, part-all}
+use mathlib.Core.Path.{refl, sym, ◌∙◌}
+use Prim.Native.Nat.{◌+◌}
+use Rattle.compiler.proofs.Funcs.{left-start, left_end, left-turns, part-all}
 use Rattle.compiler.proofs.Loops.{progress-long}
 use Rattle.compiler.proofs.whole.compile_funcs.Goals as goal
 

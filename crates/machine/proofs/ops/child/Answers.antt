@@ -1,6 +1,5 @@
 use Rattle.machine.proofs.Walking.{child-none, child-in, child-some}
 use native.Mathlib.Omega.{arith}
-use borrow.Author.Rules.{rules}
 use Rattle.machine.proofs.ops.child.Goals as goal
 
 pub returns-then-j-count : goal.returns-then-j-count

@@ -1,4 +1,4 @@
-use Rattle.machine.proofs.Execs.{Along, along-start, along-out, along-on, along-ends, refused, passed}
+use Rattle.machine.proofs.Execs.{along-start, along-out, along-on, along-ends}
 use mathlib.Core.Path.{◌∙◌}
 use native.Mathlib.Omega.{arith}
 use Rattle.machine.proofs.steps.exec.Goals as goal

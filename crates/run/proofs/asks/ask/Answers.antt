@@ -1,8 +1,6 @@
-use native.Mathlib.Omega.{arith}
 use mathlib.Core.Path.{◌∙◌}
 use Rattle.alternatives.proofs.Rounds.{refused, passed}
 use Rattle.run.proofs.Opening.{build-asks, ask-none-at, push-asks, run-asks, ask-run}
-use borrow.Author.Rules.{rules}
 use Rattle.run.proofs.asks.ask.Goals as goal
 
 pub build_question-b-requires : goal.build_question-b-requires

@@ -1,10 +1,7 @@
-use native.Mathlib.Omega.{arith}
-use borrow.Author.Rules.{rules}
-use Prim.Native.Nat.{◌≤◌}
-use mathlib.Core.Path.{◌≡◌, refl, ◌∙◌}
+use mathlib.Core.Path.{◌≡◌}
 use lib.ListN.{length}
 use Rattle.run.specs.Given.{limits_of}
-use Rattle.run.proofs.Looping.{Going, going_start, going-past, going_done, going-never}
+use Rattle.run.proofs.Looping.{Going}
 use Rattle.run.proofs.loops.run_from.Given as goal
 
 abbrev pub invariant-loop-left : goal.invariant-loop-left

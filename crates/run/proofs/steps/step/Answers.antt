@@ -1,10 +1,8 @@
 -- Where the front is about to take its turn, `readied` says what holds.
 use native.Mathlib.Omega.{arith}
-use borrow.Author.Rules.{rules}
-use Rattle.run.specs.Given.{limits_of}
 use Rattle.run.proofs.Stepping.{at-empty, at-spent, at-went, at_split, at_value, at-ended-failed, at-ended-misfit, at-full, at-lost}
 use Rattle.run.proofs.Demands.{turn-asks, taken-asks, went-asks, split-asks, value-asks, end-asks}
-use Rattle.run.proofs.Shortening.{Readied, readied}
+use Rattle.run.proofs.Shortening.{readied}
 use Rattle.run.proofs.steps.step.Goals as goal
 
 pub returns-then-st-eq0 : goal.returns-then-st-eq0

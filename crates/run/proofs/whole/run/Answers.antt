@@ -1,14 +1,7 @@
 -- Where book and question are accepted, `all-passed` says what holds, and `size-lent` that the work memory is as long as it is asked to be.
-use Prim.Native.Nat.{◌≤◌}
 use native.Mathlib.Omega.{arith}
 use mathlib.Core.Path.{sym}
-use lib.ListN.{length}
 use lib.Seq.{length-take-le}
-use borrow.Author.Rules.{rules}
-use Rattle.engine.specs.Run as e
-use Rattle.alternatives.proofs.Rounds.{refused, passed}
-use Rattle.run.specs.Given.{limits_of}
-use Rattle.run.specs.Passed.{Passed}
 use Rattle.run.proofs.Outcomes.{ran-limits, ran-book, ran-question, all-passed, size-asks, size-lent, part-passed, ran-part}
 use Rattle.run.proofs.whole.run.Goals as goal
 

@@ -1,8 +1,7 @@
 use native.Mathlib.Omega.{arith}
-use mathlib.Core.Path.{◌≡◌, refl, ap, sym, ◌∙◌, subst}
+use mathlib.Core.Path.{subst}
 use Rattle.turns.proofs.Finishing.{by-stop, ends-fails, ends-misfits, ends-full, ends-broken, ends-demand, ends-becomes, ends-split, ends-none}
 use Rattle.turns.specs.Ends.{Stopped}
-use borrow.Author.Rules.{rules}
 use Rattle.turns.proofs.ends.finish.Goals as goal
 
 pub put_fwd-requires : goal.put_fwd-requires

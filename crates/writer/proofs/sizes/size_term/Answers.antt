@@ -2,7 +2,6 @@ use Rattle.writer.proofs.EachTerm.{begun-stands, begun-counted}
 use Rattle.writer.proofs.Counting.{weigh-small}
 use Rattle.writer.proofs.Turning.{root-low, room-kept, framed_then}
 use native.Mathlib.Omega.{arith}
-use borrow.Author.Rules.{rules}
 use Rattle.writer.proofs.sizes.size_term.Goals as goal
 
 pub visit-t-requires : goal.visit-t-requires

@@ -1,13 +1,8 @@
-use Rattle.writer.proofs.Counting.{Onward, onward-at, step-ready, weigh-small, dues-none}
+use Rattle.writer.proofs.Counting.{onward-at, step-ready, weigh-small, dues-none}
 use Rattle.writer.proofs.Turning.{framed-none, framed_then}
-use Rattle.writer.specs.Owes.{dues, steps}
-use Rattle.writer.specs.Walk.{Stood, Framed}
-use Rattle.store.specs.Regions.{graph_of, frames_of, stack}
-use lib.ListN.{length}
-use mathlib.Core.Path.{◌≡◌, refl, ◌∙◌}
-use Prim.Native.Nat.{◌+◌, ◌-◌, ◌*◌, ◌≤◌}
+use Rattle.store.specs.Regions.{graph_of, frames_of}
+use mathlib.Core.Path.{refl, ◌∙◌}
 use native.Mathlib.Omega.{arith}
-use borrow.Author.Rules.{rules}
 use Rattle.writer.proofs.sizes.tally.Goals as goal
 
 pub loop-d-init : goal.loop-d-init

@@ -2,7 +2,6 @@ use Rattle.writer.proofs.EachTerm.{term_fits, term-kept, term-stands, term-fit, 
 use Rattle.writer.proofs.Counting.{begun}
 use Rattle.writer.proofs.Telling.{table_same}
 use Rattle.writer.proofs.Turning.{root-low, room-kept}
-use borrow.Author.Rules.{rules}
 use Rattle.writer.proofs.terms.write_term.Goals as goal
 
 pub visit-t-requires : goal.visit-t-requires
