@@ -154,10 +154,10 @@ module _ (book : Book) (B : FineBook book) where
     same_ended : {e : Ending} → Same (ended e) (ended e)
 
   same-found : (x : Turned Comp) (y : Turned Kept) → Same x y → NotLost y
-  same-found (goes c n) (goes k n') (same-goes q s) = tt
-  same-found (splits cs n) (splits ks n') (same-splits q) = tt
-  same-found (value b) (value b') same-value = tt
-  same-found (ended e) (ended e') same_ended = tt
+  same-found _ _ (same-goes q s) = tt
+  same-found _ _ (same-splits q) = tt
+  same-found _ _ same-value = tt
+  same-found _ _ same_ended = tt
 
   -- new computations have an empty stack
   pools-start : (cs : List Comp) → ((c : Comp) → Memᴰ c cs → Whole (Takes m) c) → Pools cs (map from_start cs)

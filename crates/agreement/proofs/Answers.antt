@@ -100,10 +100,10 @@ module _ {C : Type 0} (turn : C → Turned C) (l : Limits) where
 module _ (book : Book) (B : FineBook book) where
   -- no turn is lost
   pub same-sure : (x : Turned Comp) (y : Turned Kept) → Same book B x y → x ≡ lost → ⊥
-  same-sure (goes c n) (goes k n') (same-goes q s) e = let z : ◌≡◌ {A = ℕ} 0 1 = cc in omega arith
-  same-sure (splits cs n) (splits ks n') (same-splits q) e = let z : ◌≡◌ {A = ℕ} 0 1 = cc in omega arith
-  same-sure (value b) (value b') same-value e = let z : ◌≡◌ {A = ℕ} 0 1 = cc in omega arith
-  same-sure (ended u) (ended u') same_ended e = let z : ◌≡◌ {A = ℕ} 0 1 = cc in omega arith
+  same-sure _ _ (same-goes q s) e = let z : ◌≡◌ {A = ℕ} 0 1 = cc in omega arith
+  same-sure _ _ (same-splits q) e = let z : ◌≡◌ {A = ℕ} 0 1 = cc in omega arith
+  same-sure _ _ same-value e = let z : ◌≡◌ {A = ℕ} 0 1 = cc in omega arith
+  same-sure _ _ same_ended e = let z : ◌≡◌ {A = ℕ} 0 1 = cc in omega arith
 
 module _ (book : Book) (B : FineBook book) (l : Limits) where
   abbrev m : Program
@@ -118,7 +118,7 @@ module _ (book : Book) (B : FineBook book) (l : Limits) where
       go (y, d, s) = at (step (Machine.turn m) l y) refl (rw e at (step-alike book B l x y s))
         where
           at : (z : Next Kept) → step (Machine.turn m) l y ≡ z → AlikeNext book B (next x') z → (y : Moment Kept) × Comes (Machine.turn m) l y₀ y × Alike book B x' y
-          at (next y') f (both_go a') = (y', later d f, a')
+          at _ f (both_go {y = y'} a') = (y', later d f, a')
 
   -- and to every moment of the machine's run one of the plain run
   pub comes_back : {x₀ : Moment Comp} {y₀ y : Moment Kept} → Alike book B x₀ y₀ → Comes (Machine.turn m) l y₀ y → (x : Moment Comp) × Comes (Plain.turn book) l x₀ x × Alike book B x y
@@ -129,7 +129,7 @@ module _ (book : Book) (B : FineBook book) (l : Limits) where
       go (x, d, s) = at (step (Plain.turn book) l x) refl (rw e at (step-alike book B l x y s))
         where
           at : (z : Next Comp) → step (Plain.turn book) l x ≡ z → AlikeNext book B z (next y') → (x : Moment Comp) × Comes (Plain.turn book) l x₀ x × Alike book B x y'
-          at (next x') f (both_go a') = (x', later d f, a')
+          at _ f (both_go {x = x'} a') = (x', later d f, a')
 
   alike-sure : (x : Moment Comp) (y : Moment Kept) → Alike book B x y → Sure (Plain.turn book) l x
   alike-sure (moment [] k out) (moment pool' k' out') (alike p) = tt

@@ -66,7 +66,7 @@ module _ (book : Book) where
     pools-same (d ∷ ds) (c ∷ cs) (e, s, p) = let q = pools-same ds cs p in let r : c ≡ d = e in cc
 
     same-pools : (ds : List Comp) (n : ℕ) (y : Turned Kept) → Same book B (splits ds n) y → (ks : List Kept) × (y ≡ splits ks n) × Pools book B ds ks
-    same-pools ds n (splits ks n') (same-splits q) = (ks, refl, q)
+    same-pools ds n _ (same-splits {ks} q) = (ks, refl, q)
 
     module _ (c : Comp) (N : List ℕ) (S : Sound book B c N) where
       abbrev K : Kept

@@ -73,12 +73,12 @@ module _ (book : Book) (B : FineBook book) where
     taken-alike : (pool : List Comp) (pool' : List Kept) → Pools book B pool pool' → (k : Counts) (out : List ℕ) (x : Turned Comp) (y : Turned Kept) → Same book B x y
         → AlikeNext (taken (Plain.turn book) l pool k out x) (taken (Machine.turn m) l pool' k out y)
     unfolding taken
-    taken-alike pool pool' p k out (goes d j) (goes d' j') (same-goes q s) = go (fits l k j) refl
+    taken-alike pool pool' p k out _ _ (same-goes {c = d} {k = d'} {n = j} q s) = go (fits l k j) refl
       where
         go : (b : Bool) → fits l k j ≡ b → AlikeNext (taken (Plain.turn book) l pool k out (goes d j)) (taken (Machine.turn m) l pool' k out (goes d' j))
         go true t = rw (t, taken) (both_go (alike (pools-append pool pool' (d ∷ []) (d' ∷ []) p (q, s, tt))))
         go false t = rw (t, taken) both_end
-    taken-alike pool pool' p k out (splits ds j) (splits ds' j') (same-splits q) = go (fits l k j) (leb (length pool + length ds) l.pool) refl refl
+    taken-alike pool pool' p k out _ _ (same-splits {cs = ds} {ks = ds'} {n = j} q) = go (fits l k j) (leb (length pool + length ds) l.pool) refl refl
       where
         lp : length pool' ≡ length pool
         lp = sym (pools-length pool pool' p)
@@ -90,12 +90,12 @@ module _ (book : Book) (B : FineBook book) where
         go true true t u = rw (t, lp, ld, u, taken) (rw ld (both_go (alike (pools-append pool pool' ds ds' p q))))
         go true false t u = rw (t, lp, ld, u, taken) both_end
         go false b t u = rw (t, taken) both_end
-    taken-alike pool pool' p k out (value b) (value b') same-value = go (leb (length (out ++ result_record (suc (turns_of k)) b)) l.results) refl
+    taken-alike pool pool' p k out _ _ (same-value {b}) = go (leb (length (out ++ result_record (suc (turns_of k)) b)) l.results) refl
       where
         go : (a : Bool) → leb (length (out ++ result_record (suc (turns_of k)) b)) l.results ≡ a → AlikeNext (taken (Plain.turn book) l pool k out (value b)) (taken (Machine.turn m) l pool' k out (value b))
         go true t = rw (t, taken) (both_go (alike p))
         go false t = rw (t, taken) both_end
-    taken-alike pool pool' p k out (ended e) (ended e') same_ended = both_go (alike p)
+    taken-alike pool pool' p k out _ _ same_ended = both_go (alike p)
 
     pub step-alike : (x : Moment Comp) (y : Moment Kept) → Alike x y → AlikeNext (step (Plain.turn book) l x) (step (Machine.turn m) l y)
     unfolding step
@@ -119,8 +119,8 @@ module _ (book : Book) (B : FineBook book) where
         go : ((x : Moment Comp) (y : Moment Kept) → Alike x y → closed code (run_from (Machine.turn m) l n y) ≡ closed code (run_from (Plain.turn book) l n x))
             → (s : Next Comp) (t : Next Kept) → step (Plain.turn book) l x ≡ s → step (Machine.turn m) l y ≡ t → AlikeNext s t
             → closed code (run_from (Machine.turn m) l (suc n) y) ≡ closed code (run_from (Plain.turn book) l (suc n) x)
-        go ih (ends b) (ends b') e e' both_end = rw (e, e', run_from) (shown b x y a)
-        go ih (next x') (next y') e e' (both_go a') = rw (e, e', run_from) (ih x' y' a')
+        go ih _ _ e e' (both_end {a = b}) = rw (e, e', run_from) (shown b x y a)
+        go ih _ _ e e' (both_go {x = x'} {y = y'} a') = rw (e, e', run_from) (ih x' y' a')
 
   -- a question's computation
   pub start-whole : (q : Right) → FineTerm m 0 q.vars q.term → Whole (Takes m) (start q)

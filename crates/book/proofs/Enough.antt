@@ -84,6 +84,11 @@ pick_same s k (c ∷ cs) (d ∷ ds) h (Of kind a b e) q = go (pick_same s k cs d
     go ih true t false u = rw (kinds, t, pick, tests, u)
     go ih true t true u = rw (kinds, t, pick, tests, u) (h.2 a b e p.0 u)
 
+-- where no record stands, no case is read
+pick-bad : {A : Type 0} (cs : List (Case A)) (k : ℕ) (w : Sort) → pick cs k (Bad w) ≡ fault w k
+unfolding pick
+pick-bad cs k w = refl
+
 -- on from the same thing in the same way
 after_same : {A B : Type 0} (x : Got A) (f g : A → ℕ → Got B) → ((a : A) (e : ℕ) → x ≡ got a e → f a e ≡ g a e) → after x f ≡ after x g
 unfolding after
@@ -121,10 +126,10 @@ trees-same one other k₀ same on (a ∷ more) k h =
 module _ (s : List ℕ) (types : List (List ℕ)) (funcs : List ℕ) where
   -- A tree's depth is never cut by a bound that is as large as the number of bytes left: each SPLIT takes some.
   pub tree-bound : (n m : ℕ) (slots : Slots) (k : ℕ) → length s ≤ n + k → length s ≤ m + k → read_tree n s types funcs slots k ≡ read_tree m s types funcs slots k
-  unfolding read_tree pick
+  unfolding read_tree
   tree-bound zero zero slots k h l = refl
-  tree-bound zero (suc m) slots k h l = rw (rec-ends s k (omega arith))
-  tree-bound (suc n) zero slots k h l = rw (rec-ends s k (omega arith))
+  tree-bound zero (suc m) slots k h l = rw (rec-ends s k (omega arith), pick-bad)
+  tree-bound (suc n) zero slots k h l = rw (rec-ends s k (omega arith), pick-bad)
   tree-bound (suc n) (suc m) slots k h l = pick_same s k _ _ (
     refl,
     refl,
@@ -139,7 +144,7 @@ module _ (s : List ℕ) (types : List (List ℕ)) (funcs : List ℕ) where
 
   funcs-stop : (n k : ℕ) → length s ≤ k → read_funcs n s types funcs k ≡ got [] k
   unfolding read_funcs
-  funcs-stop n k h = elim n [ zero ↦ refl | suc n ↦ rw (le-ltb k (length s) h, read_funcs) ]
+  funcs-stop n k h = elim n as (λ n. read_funcs n s types funcs k ≡ got [] k) [ zero ↦ refl | suc n ↦ rw (le-ltb k (length s) h, read_funcs) ]
 
   funcs-bound-at : (n m k : ℕ) → length s ≤ n + k → length s ≤ m + k → read_funcs n s types funcs k ≡ read_funcs m s types funcs k
   unfolding read_funcs

@@ -50,7 +50,7 @@ rec-goes s k q = subst (Forward s k) q (rec-forward s k)
 module _ (s : List ℕ) (n k : ℕ) where
   pub funcs-end : {w : Sort} → rec_at s k ≡ Bad w → funcs_from s n k ≡ []
   unfolding funcs_from
-  funcs-end q = elim n [ zero ↦ refl | suc n ↦ rw (q, funcs_from) ]
+  funcs-end q = elim n as (λ n. funcs_from s n k ≡ []) [ zero ↦ refl | suc n ↦ rw (q, funcs_from) ]
 
   pub funcs-take : {kind a b e : ℕ} → rec_at s k ≡ Of kind a b e → kind ≡ 3 → funcs_from s (suc n) k ≡ a ∷ funcs_from s n e
   unfolding funcs_from
@@ -84,7 +84,7 @@ funcs-enough s (suc n) (suc m) k h l = go (funcs-enough s n m) (rec_at s k) refl
 module _ (s : List ℕ) (fits : ℕ → ℕ → ℕ → Bool) (n f k : ℕ) where
   pub scan-ends : length s ≤ k → scan s fits n f k ≡ got tt k
   unfolding scan
-  scan-ends h = elim n [ zero ↦ refl | suc n ↦ rw (le-ltb k (length s) h, scan) ]
+  scan-ends h = elim n as (λ n. scan s fits n f k ≡ got tt k) [ zero ↦ refl | suc n ↦ rw (le-ltb k (length s) h, scan) ]
 
   module _ (h : k < length s) where
     pub scan-faults : {w : Sort} → rec_at s k ≡ Bad w → scan s fits (suc n) f k ≡ fault w k

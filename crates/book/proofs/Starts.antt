@@ -23,7 +23,7 @@ use Rattle.book.proofs.Wholes.{make-both, Picked, picked, book-is}
 module _ (s : List ℕ) (n k f : ℕ) where
   from-bad : {w : Sort} → rec_at s k ≡ Bad w → tree_from s n k f ≡ k
   unfolding tree_from
-  from-bad q = elim n [ zero ↦ refl | suc n ↦ rw (q, tree_from) ]
+  from-bad q = elim n as (λ n. tree_from s n k f ≡ k) [ zero ↦ refl | suc n ↦ rw (q, tree_from) ]
 
   module _ {kind a b e : ℕ} (q : rec_at s k ≡ Of kind a b e) where
     from-other : (kind ≡ 3 → ⊥) → tree_from s (suc n) k f ≡ tree_from s n e f

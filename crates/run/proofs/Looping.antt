@@ -28,10 +28,10 @@ use Rattle.run.specs.Between.{counts_in, moment_of, next_of, written_by, Bounded
 
 module _ (book : Book) (B : FineBook book) (l : e.Limits) where
   next-of : (u : e.Next m.Kept) (y : StoreMoment) → StandsNext book B l u (store_next y) → (x : e.Moment m.Kept) × (u ≡ e.next x) × StandsFor book B l x y
-  next-of (e.next x) y (both_go S) = (x, refl, S)
+  next-of _ y (both_go {x} S) = (x, refl, S)
 
   ends_of : (u : e.Next m.Kept) (a : e.Answer) → StandsNext book B l u (store_ends a) → u ≡ e.ends a
-  ends_of (e.ends a') a both_end = refl
+  ends_of _ a both_end = refl
 
   closed_at : (code : List ℕ) (a : e.Answer) (x : e.Moment m.Kept) (μ : Store) (cs : List m.Held) (κ : Counts) (out : List ℕ) → StandsFor book B l x (store_moment μ cs κ out) → e.closed code (a, x) ≡ e.outcome a κ out code
   unfolding e.closed

@@ -67,10 +67,10 @@ module _ (book : Book) (B : FineBook book) where
   SoundTurn T.lost = ⊥
 
   sound-turn : (y : Turned Comp) (x : Turned Kept) → Same book B y x → SoundTurn x
-  sound-turn (goes c n) (goes k n') (same-goes q s) = subst (λ (x : Comp). Sound book B x k.stack) (sym q) s
-  sound-turn (splits cs n) (splits ks n') (same-splits p) = pools-sound cs ks p
-  sound-turn (value b) (value b') same-value = tt
-  sound-turn (T.ended e) (T.ended e') same_ended = tt
+  sound-turn _ _ (same-goes {k} q s) = subst (λ (x : Comp). Sound book B x k.stack) (sym q) s
+  sound-turn _ _ (same-splits {cs} {ks} p) = pools-sound cs ks p
+  sound-turn _ _ same-value = tt
+  sound-turn _ _ same_ended = tt
 
   -- a turn on the store is never lost, so its code never finds itself broken
   pub turn-known : (k : Kept) (s : Sound book B k.comp k.stack) (μ : Store) (c : Held) → Stands k.comp.graph (held_of k) μ c → (n : ℕ) → length k.comp.graph ≤ n → store_turn n m μ c ≡ lost → ⊥
@@ -103,10 +103,10 @@ module _ (book : Book) (B : FineBook book) where
 
       taken-stands : (x : Turned Kept) (y : Took) → SoundTurn x → Sized (length k.comp.graph) x → After S.world μ x y → After₁ x y
       unfolding taken store_taken
-      taken-stands (goes k' j) (went μ' c') s z (after-goes S' new t q) =
+      taken-stands _ _ s z (after-goes {k = k'} {n = j} {μ'} S' new t q) =
           let r = room_fits R j μ' q in
           rw (r.0, r.1, taken) (both_go (stands-for (queue-goes p S.world apart (after-goes S' new t q)) (sounds-append ks (k' ∷ []) ss (s, tt)) (room_after R (k' ∷ []) j q z 1 0 0 0 0 0)))
-      taken-stands (splits ks' j) (split μ' cs') s z (after-splits I) = go (leb (length ks + length ks') l.pool) refl
+      taken-stands _ _ s z (after-splits {ks = ks'} {n = j} {μ'} {cs = cs'} I) = go (leb (length ks + length ks') l.pool) refl
         where
           r : (fits l κ j ≡ true) × (made_in μ μ' ≡ j)
           r = room_fits R j μ' I.count
@@ -117,14 +117,14 @@ module _ (book : Book) (B : FineBook book) where
           go : (b : Bool) → leb (length ks + length ks') l.pool ≡ b → After₁ (splits ks' j) (split μ' cs')
           go true t = rw (r.0, same, d, t, taken, store_taken) (rw (r.1, d) (both_go (stands-for (queue-splits p S.world apart (after-splits I)) (sounds-append ks ks' ss s) (room_after R ks' j I.count z 1 (length ks') 1 0 0 0))))
           go false t = rw (r.0, same, d, t, taken, store_taken) both_end
-      taken-stands (value b) (wrote b') s z after-value = go (leb (length (out ++ result_record (suc (turns_of κ)) b)) l.results) refl
+      taken-stands _ _ s z (after-value {b}) = go (leb (length (out ++ result_record (suc (turns_of κ)) b)) l.results) refl
         where
           go : (a : Bool) → leb (length (out ++ result_record (suc (turns_of κ)) b)) l.results ≡ a → After₁ (value b) (wrote b)
           go true t = rw (t, taken, store_taken) (both_go (gone (κ ⊕ counts 1 0 0 0 1 0 0) (out ++ result_record (suc (turns_of κ)) b) (nodes-still κ 1 0 0 1 0 0)))
           go false t = rw (t, taken, store_taken) both_end
-      taken-stands (T.ended e) (ended e') s z after-ended = both_go (gone (κ ⊕ tally e) out (nodes-ended κ e))
-      taken-stands T.lost lost s z after-lost = absurd s
-      taken-stands x none_left s z (after-full f) = no-nodes x s f
+      taken-stands _ _ s z (after-ended {e}) = both_go (gone (κ ⊕ tally e) out (nodes-ended κ e))
+      taken-stands _ _ s z after-lost = absurd s
+      taken-stands _ _ s z (after-full {x} f) = no-nodes x s f
 
     -- One step: moments that stand for one another come to the same answer, or to moments that stand for one another again.
     pub step-stands : (x : Moment Kept) (y : StoreMoment) → StandsFor book B l x y → StandsNext book B l (step (Machine.turn m) l x) (store_step m l y)
@@ -146,5 +146,5 @@ module _ (book : Book) (B : FineBook book) where
     step-shown x y S = go (step (Machine.turn m) l x) (store_step m l y) (step-stands x y S)
       where
         go : (u : Next Kept) (v : StoreNext) → StandsNext book B l u v → store_shown_next v ≡ shown_next u
-        go (ends a) (store_ends a') both_end = refl
-        go (next x) (store_next y) (both_go S) = ap next (stands-shown book B l x y S)
+        go _ _ both_end = refl
+        go _ _ (both_go {x} {y} S) = ap next (stands-shown book B l x y S)

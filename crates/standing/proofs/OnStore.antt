@@ -54,8 +54,8 @@ module _ (book : Book) (B : FineBook book) (l : Limits) where
     where
       go : ((x : Moment Kept) (y : StoreMoment) → StandsFor book B l x y → StandsEnd book B l (run_from (Machine.turn m) l n x) (store_run_from m l n y))
           → (u : Next Kept) (v : StoreNext) → step (Machine.turn m) l x ≡ u → store_step m l y ≡ v → StandsNext book B l u v → StandsEnd book B l (run_from (Machine.turn m) l (suc n) x) (store_run_from m l (suc n) y)
-      go ih (ends a) (store_ends a') e f both_end = rw (e, f, run_from, store_run_from) (stands-end S)
-      go ih (next x') (store_next y') e f (both_go S') = rw (e, f, run_from, store_run_from) (ih x' y' S')
+      go ih _ _ e f both_end = rw (e, f, run_from, store_run_from) (stands-end S)
+      go ih _ _ e f (both_go {x = x'} {y = y'} S') = rw (e, f, run_from, store_run_from) (ih x' y' S')
 
   module _ (μ : Store) (R : Ready l μ) (q : Right) (f : FineTerm m 0 q.vars q.term) where
     W : Whole (Takes m) (start q)

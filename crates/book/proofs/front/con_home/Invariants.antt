@@ -1,0 +1,13 @@
+use borrow.Author.Rules.{rules}
+use native.Mathlib.Omega.{arith}
+use Prim.Native.Nat.{◌≤◌, ◌<◌, ◌-◌, ◌+◌, ◌*◌}
+use mathlib.Core.Path.{◌≡◌, refl, sym, ◌∙◌, subst}
+use lib.ListN.{get_or, length}
+use Rattle.book.proofs.Lookups.{HomeAt, home-start, home-step, home-end}
+use Rattle.book.proofs.front.con_home.Given as goal
+
+abbrev pub invariant-loop-n : goal.invariant-loop-n
+invariant-loop-n l = HomeAt l.s l.at l.ty l.left l.initial.left × (l.n ≡ get_or l.s (l.at + 1) 0) × (l.ty ≤ l.at)
+
+abbrev pub decreases-loop-n : goal.decreases-loop-n
+decreases-loop-n l = length l.s - l.at

@@ -1,0 +1,13 @@
+use borrow.Author.Rules.{rules}
+use native.Mathlib.Omega.{arith}
+use Prim.Native.Nat.{◌≤◌, ◌-◌, ◌+◌, ◌*◌}
+use mathlib.Core.Path.{refl, sym, ◌∙◌}
+use Rattle.book.proofs.Wholes.{types-read}
+use Rattle.book.proofs.Fronts.{TypesAre, types-start, types-bad, types-stop, types-many, types-none, types-over, types-fault, types_more, cons-long}
+use Rattle.book.proofs.front.read_types.Given as goal
+
+abbrev pub invariant-loop-kind : goal.invariant-loop-kind
+invariant-loop-kind l = TypesAre l.s l.types l.cons l.at l.table × (l.types ≤ 64)
+
+abbrev pub decreases-loop-kind : goal.decreases-loop-kind
+decreases-loop-kind l = 64 - l.types

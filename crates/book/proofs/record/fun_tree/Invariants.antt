@@ -1,0 +1,15 @@
+use borrow.Author.Rules.{rules}
+use native.Mathlib.Omega.{arith}
+use Prim.Native.Nat.{◌≤◌, ◌-◌}
+use mathlib.Core.Path.{◌≡◌, refl, sym, ◌∙◌}
+use lib.ListN.{length}
+use Rattle.book.specs.Facts.{tree_from}
+use Rattle.book.proofs.Records.{of-known}
+use Rattle.book.proofs.Starts.{FromIs, from_start, loop-end, loop-bad, loop-this, loop-next, loop-other, tree-stands}
+use Rattle.book.proofs.record.fun_tree.Given as goal
+
+abbrev pub invariant-loop-at : goal.invariant-loop-at
+invariant-loop-at l = FromIs l.s l.at l.left (tree_from l.s (length l.s) 0 l.initial.left)
+
+abbrev pub decreases-loop-at : goal.decreases-loop-at
+decreases-loop-at l = length l.s - l.at

@@ -1,0 +1,25 @@
+use borrow.Author.Rules.{rules}
+use Rattle.book.proofs.Scans.{AnyIs, scan-start, scan-end, scan-bad, scan-any}
+use Rattle.book.proofs.Records.{of-known}
+use Rattle.book.specs.Steps.{step}
+use Rattle.book.specs.Record.{scan, any_fits}
+use mathlib.Core.Path.{◌≡◌, ◌∙◌, ap, sym}
+use lib.ListN.{length}
+use Prim.Native.Nat.{◌≤◌, ◌-◌}
+use native.Mathlib.Omega.{arith}
+use Rattle.book.proofs.record.whole.Goals as goal
+
+pub loop-at-init : goal.loop-at-init
+loop-at-init c = record { count = 0; scans = scan-start _ _ }
+
+pub returns-in_default : goal.returns-in_default
+returns-in_default c = scan-bad _ _ c.loop-at.invariant.scans c.loop-at-test.true c.rec_at-r.ensures c.in_default.is c.bad.ensures
+
+pub loop-at-smaller : goal.loop-at-smaller
+loop-at-smaller c = let g = of-known _ _ c.rec_at-r.ensures c.in-Of.is in omega (arith, g.on, g.within, c.loop-at-test.true)
+
+pub loop-at-preserved : goal.loop-at-preserved
+loop-at-preserved c = scan-any _ c.loop-at.invariant c.loop-at-test.true c.rec_at-r.ensures c.in-Of.is
+
+pub returns : goal.returns
+returns c = scan-end _ _ c.loop-at.invariant.scans c.loop-at-test.false

@@ -1,0 +1,14 @@
+use borrow.Author.Rules.{rules}
+use native.Mathlib.Omega.{arith}
+use Prim.Native.Nat.{◌≤◌, ◌<◌, ◌-◌, ◌+◌, ◌*◌}
+use mathlib.Core.Path.{refl}
+use Rattle.book.specs.Steps.{step, names}
+use Rattle.book.specs.Reading.{read_terms}
+use Rattle.book.proofs.Words.{TermsIs, term-end, term-fault, term-more}
+use Rattle.book.proofs.term.read_term.Given as goal
+
+abbrev pub invariant-loop-due : goal.invariant-loop-due
+invariant-loop-due l = TermsIs l.s (names l.cons l.funcs l.pattern l.vars) l.room l.due l.at (step (read_terms l.s (names l.cons l.funcs l.pattern l.vars) 255 1 l.from)) × (l.room ≤ 255) × (l.due + 255 * l.room ≤ 65026)
+
+abbrev pub decreases-loop-due : goal.decreases-loop-due
+decreases-loop-due l = l.room

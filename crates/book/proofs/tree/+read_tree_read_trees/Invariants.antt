@@ -1,0 +1,22 @@
+use Prim.Native.Nat.{ℕ, ◌+◌, ◌*◌, ◌-◌, ◌<◌}
+use lib.ListN.{length}
+use mathlib.Core.Path.{refl}
+use native.Mathlib.Omega.{arith}
+use borrow.Author.Rules.{rules}
+use Rattle.book.specs.Steps.{types_of, live}
+use Rattle.book.proofs.Records.{of-known}
+use Rattle.book.proofs.Places.{live-long, was-can, was-not}
+use Rattle.book.proofs.Woods.{tree-bad, tree-unsplit, tree-split', tree-none, tree_over, tree-rule, tree-nil, tree-odd, TreesAre, trees-start, trees-end, trees-fault, trees-more, fits-first}
+use Rattle.book.proofs.tree.+read_tree_read_trees.Given as goal
+
+abbrev pub decreases-read_tree : goal.decreases-read_tree
+decreases-read_tree l = 2 * (length l.s.now - l.at)
+
+abbrev pub decreases-read_trees : goal.decreases-read_trees
+decreases-read_trees l = 2 * (length l.s.now - l.at) + 1
+
+abbrev pub invariant-read_trees-loop-left : goal.invariant-read_trees-loop-left
+invariant-read_trees-loop-left l = TreesAre l.s l.book (types_of l.book) l.funcs (live l.slots) l.slot l.slots.n l.first l.n l.at l.con l.left l.k
+
+abbrev pub decreases-read_trees-loop-left : goal.decreases-read_trees-loop-left
+decreases-read_trees-loop-left l = l.left

@@ -1,0 +1,14 @@
+use native.Mathlib.Omega.{arith}
+use mathlib.Core.Path.{refl, ap}
+use Rattle.compiler.proofs.Writing.{emits-long, emits-as}
+use Rattle.compiler.proofs.Loops.{vars-long, progress-long}
+use Rattle.compiler.specs.Rows.{vars_code}
+use Rattle.compiler.proofs.Rights.{Left, left-start, left-turns, left-none}
+use Rattle.compiler.specs.Here.{RightsHere}
+use Rattle.compiler.proofs.rule.put_rights.Given as goal
+
+abbrev pub invariant-loop-left : goal.invariant-loop-left
+invariant-loop-left l = (x : RightsHere l.s l.lore l.rows l.from l.n l.o l.initial.code) → Left x l.at l.left l.out l.code
+
+abbrev pub decreases-loop-left : goal.decreases-loop-left
+decreases-loop-left l = l.left

@@ -1,0 +1,21 @@
+use borrow.Author.Rules.{rules}
+use native.Mathlib.Omega.{arith}
+use mathlib.Core.Path.{refl}
+use lib.ListN.{length}
+use Prim.Native.Nat.{ℕ, ◌+◌, ◌*◌, ◌-◌, ◌<◌}
+use Rattle.compiler.proofs.Splits.{tree-inside, none_is, first-is, split-is}
+use Rattle.compiler.proofs.Children.{keeps-refl, tree-kept, Onward, onward-start, onward-end, onward-more, still, child-is}
+use Rattle.compiler.proofs.Writing.{emits-long}
+use Rattle.compiler.proofs.tree.+compile_tree_compile_trees.Given as goal
+
+abbrev pub decreases-compile_tree : goal.decreases-compile_tree
+decreases-compile_tree l = 2 * (length l.s.now - l.at)
+
+abbrev pub decreases-compile_trees : goal.decreases-compile_trees
+decreases-compile_trees l = 2 * (length l.s.now - l.at) + 1
+
+abbrev pub invariant-compile_trees-loop-left : goal.invariant-compile_trees-loop-left
+invariant-compile_trees-loop-left l = Onward l.s l.lore l.initial.rows l.n l.slot l.c l.m l.at l.g l.o l.initial.code l.rows l.con l.left l.k l.go l.out l.code
+
+abbrev pub decreases-compile_trees-loop-left : goal.decreases-compile_trees-loop-left
+decreases-compile_trees-loop-left l = l.left

@@ -1,0 +1,16 @@
+use borrow.Author.Rules.{rules}
+use native.Mathlib.Omega.{arith}
+use mathlib.Core.Path.{◌≡◌, refl, sym, ◌∙◌}
+use Prim.Native.Nat.{◌+◌, ◌-◌}
+use lib.ListN.{length}
+use Rattle.mem.specs.Words.{words}
+use Rattle.compiler.specs.Here.{FuncsHere}
+use Rattle.compiler.proofs.Funcs.{Left, left-start, left_end, left-turns, part-all}
+use Rattle.compiler.proofs.Loops.{progress-long}
+use Rattle.compiler.proofs.whole.compile_funcs.Given as goal
+
+abbrev pub invariant-loop-at : goal.invariant-loop-at
+invariant-loop-at l = (length l.tables ≡ length l.initial.tables) × ((x : FuncsHere l.book l.lore l.initial.rows (words l.initial.tables) l.from l.initial.code) → Left x l.rows (words l.tables) l.code l.at l.out l.f)
+
+abbrev pub decreases-loop-at : goal.decreases-loop-at
+decreases-loop-at l = length l.book - l.at

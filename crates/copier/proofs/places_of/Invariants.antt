@@ -1,0 +1,16 @@
+use borrow.Author.Rules.{rules}
+use native.Mathlib.Omega.{arith}
+use Rattle.copier.specs.Poured.{placed}
+use mathlib.Core.List.Memᴰ
+use mathlib.Core.List.{map}
+use mathlib.Core.Path.{◌≡◌, refl, subst}
+use Prim.Native.Nat.{ℕ, ◌≤◌, ◌-◌}
+use lib.ListN.{length, take, length-set}
+use Rattle.copier.proofs.Steps.{fill-map, front-mem}
+use Rattle.copier.proofs.places_of.Given as goal
+
+abbrev pub invariant-loop-j : goal.invariant-loop-j
+invariant-loop-j l = (take l.j l.at ≡ map (placed l.limit l.made l.s) (take l.j l.from)) × (l.j ≤ l.n) × (length l.at ≡ 9) × (length l.from ≡ 9)
+
+abbrev pub decreases-loop-j : goal.decreases-loop-j
+decreases-loop-j l = l.n - l.j

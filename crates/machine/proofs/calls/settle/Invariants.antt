@@ -1,0 +1,10 @@
+use Rattle.machine.proofs.Stacks.{Settling, settling-start, settling-empty, settling-out, settling-call, settling-past, settling-next}
+use borrow.Author.Rules.{rules}
+use native.Mathlib.Omega.{arith}
+use Rattle.machine.proofs.calls.settle.Given as goal
+
+abbrev pub invariant-loop-left : goal.invariant-loop-left
+invariant-loop-left l = Settling l.limit l.s l.top l.t l.left
+
+abbrev pub decreases-loop-left : goal.decreases-loop-left
+decreases-loop-left l = l.left

@@ -1,0 +1,14 @@
+use Rattle.machine.proofs.Making.{length-top, lay-word, laid-is}
+use Rattle.machine.specs.View.{pre_terms}
+use Rattle.store.proofs.Laying.{Laying, lay-start, lay-room, lay_step}
+use lib.ListN.{length, take}
+use mathlib.Core.Path.{◌≡◌, refl, sym, ◌∙◌}
+use Prim.Native.Nat.{◌≤◌, ◌-◌}
+use native.Mathlib.Omega.{arith}
+use Rattle.machine.proofs.makes.lay_cell.Given as goal
+
+abbrev pub invariant-loop-j : goal.invariant-loop-j
+invariant-loop-j l = Laying l.limit l.k.0 (take l.count (pre_terms l.limit l.base l.initial.s l.terms)) l.j l.initial.s l.s × (l.j ≤ l.count) × (length l.s ≡ length l.initial.s)
+
+abbrev pub decreases-loop-j : goal.decreases-loop-j
+decreases-loop-j l = l.count - l.j

@@ -1,0 +1,10 @@
+use Rattle.machine.proofs.Runs.{choice-empty, choice-is}
+use native.Mathlib.Omega.{arith}
+use borrow.Author.Rules.{rules}
+use Rattle.machine.proofs.ops.choice.Goals as goal
+
+pub returns-then-regs-eq0 : goal.returns-then-regs-eq0
+returns-then-regs-eq0 c = choice-empty _ _ _ _ _ c.requires.fine c.if-regs-eq0.true
+
+pub returns : goal.returns
+returns c = choice-is _ _ _ _ _ c.requires.fine _ (omega arith) c.follow-at.ensures

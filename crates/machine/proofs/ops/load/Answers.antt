@@ -1,0 +1,13 @@
+use Rattle.machine.proofs.Runs.{load-empty, load-lost, load_found}
+use native.Mathlib.Omega.{arith}
+use borrow.Author.Rules.{rules}
+use Rattle.machine.proofs.ops.load.Goals as goal
+
+pub returns-then-regs-eq0 : goal.returns-then-regs-eq0
+returns-then-regs-eq0 c = load-empty _ _ _ _ _ c.requires.fine _ c.if-regs-eq0.true
+
+pub returns-in_default : goal.returns-in_default
+returns-in_default c = load-lost _ _ _ _ _ c.requires.fine _ _ (omega arith) c.walk-k.ensures c.in_default.is
+
+pub returns : goal.returns
+returns c = load_found _ _ _ _ _ c.requires.fine _ _ _ (omega arith) c.walk-k.ensures c.in-Holds.is

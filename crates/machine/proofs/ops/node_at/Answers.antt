@@ -1,0 +1,6 @@
+use Rattle.machine.proofs.Walking.{var-past}
+use borrow.Author.Rules.{rules}
+use Rattle.machine.proofs.ops.node_at.Goals as goal
+
+pub returns-then-n-limit : goal.returns-then-n-limit
+returns-then-n-limit c = var-past _ _ _ c.if-n-limit.true

@@ -1,0 +1,7 @@
+use Rattle.machine.proofs.Walking.{start_is}
+use native.Mathlib.Omega.{arith}
+use borrow.Author.Rules.{rules}
+use Rattle.machine.proofs.tables.start_of.Goals as goal
+
+pub returns : goal.returns
+returns c = start_is _ _ _ _ _ (omega (arith, c.struct_known-1.given)) c.get_rest-low.ensures c.get_rest-high.ensures

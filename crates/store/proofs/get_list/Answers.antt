@@ -1,0 +1,6 @@
+use borrow.Author.Rules.{rules}
+use Rattle.store.proofs.Laws.{list-word}
+use Rattle.store.proofs.get_list.Goals as goal
+
+pub returns : goal.returns
+returns c = list-word _ _ _ _ c.requires.k_lt_limit c.get.ensures

@@ -1,0 +1,6 @@
+use borrow.Author.Rules.{rules}
+use Rattle.store.proofs.Laws.{rest-word}
+use Rattle.store.proofs.get_rest.Goals as goal
+
+pub returns : goal.returns
+returns c = rest-word _ _ _ _ c.get.ensures

@@ -1,0 +1,7 @@
+use mathlib.Core.Path.{refl, ap, sym, ◌∙◌}
+use Rattle.machine.specs.View.{demand_of}
+use borrow.Author.Rules.{rules}
+use Rattle.turns.proofs.calls.demanded.Goals as goal
+
+pub returns-in-Demand : goal.returns-in-Demand
+returns-in-Demand c = sym (ap demand_of c.in-Demand.is)

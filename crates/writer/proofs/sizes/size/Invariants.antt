@@ -1,0 +1,24 @@
+use Rattle.writer.proofs.EachTerm.{read-now, size-on, size-all, nine}
+use Rattle.writer.proofs.Counting.{fits-over, fits_in}
+use Rattle.writer.proofs.Turning.{framed-none, framed_then, room-kept}
+use Rattle.writer.specs.Walk.{Framed}
+use Rattle.store.specs.Regions.{graph_of}
+use Rattle.heap.specs.Graph.{write_each}
+use lib.ListN.{length, take, drop}
+use mathlib.Core.Path.{◌≡◌, refl, ◌∙◌}
+use Prim.Native.Nat.{◌+◌, ◌-◌, ◌≤◌}
+use native.Mathlib.Omega.{arith}
+use borrow.Author.Rules.{rules}
+use Rattle.writer.proofs.sizes.size.Given as goal
+
+abbrev pub invariant-loop-i : goal.invariant-loop-i
+invariant-loop-i l = Framed l.limit l.initial.s l.s
+    × (l.sum + length (write_each l.limit (graph_of l.limit l.initial.s) (drop l.i (take l.n l.ks))) ≡ length (write_each l.limit (graph_of l.limit l.initial.s) (take l.n l.ks)))
+    × (l.sum ≤ l.room)
+    × (l.i ≤ l.n)
+    × (length l.s ≡ length l.initial.s)
+    × (l.n ≤ length l.ks)
+    × (length l.ks ≡ 9)
+
+abbrev pub decreases-loop-i : goal.decreases-loop-i
+decreases-loop-i l = l.n - l.i
