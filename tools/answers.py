@@ -79,6 +79,8 @@ class Turn:
         """The new path of old fields below a place."""
         parent, step, callee, i = self.places[place]
         seg0, rest = segs[0], segs[1:]
+        if place == "Start" and seg0 not in ("args", "requires", "lifetimes", "ranges", "well-formed", "well_formed"):
+            return None
         if place == "Start" or seg0 in ("args", "requires", "lifetimes", "ranges"):
             if seg0 == "requires":
                 names = self.sigs[self.fn]["requires"]
@@ -425,13 +427,15 @@ def one(path, d, fn, sigs, crate):
             if w != g and w.rstrip("₀") != g.rstrip("₀"):
                 t.say(f"{m[1]}: {g} stands for {w}")
         body = b[m.end():]
+        rec = "l" if not re.search(r"(?<![\w'.₀-₉-])l(?![\w'₀-₉-])", body) else "at_turn"
+        mean = {g: rec + w[1:] for g, w in mean.items()}
         binders = set(re.findall(r"λ ([^.]*)\.", body) and " ".join(re.findall(r"λ ([^.]*)\.", body)).split())
         for g in re.findall(r"\(([^()]*?) : ", body):
             binders |= set(g.split())
         for g in binders & set(mean):
             t.say(f"{m[1]}: {g} is bound again")
         body = re.sub(r"(?<![\w'.₀-₉-])([A-Za-z_][\w'₀-₉]*(?:-[\w'₀-₉]+)*)(?![\w'₀-₉-])", lambda x: mean.get(x[1], x[1]), body)
-        invs.append(f"abbrev pub {kind}-{new} : goal.{kind}-{new}\n{m[3]}{kind}-{new} l = {body}")
+        invs.append(f"abbrev pub {kind}-{new} : goal.{kind}-{new}\n{m[3]}{kind}-{new} {rec} = {body}")
     mod = None
     for u in uses:
         x = re.match(r"use (Rattle\.\S+)\.Statement\.\{statement\}", u)

@@ -13,7 +13,7 @@ use Rattle.book.proofs.Acceptance.{question-fine}
 use Rattle.heap.specs.Graph.{Comp}
 use Rattle.heap.specs.Build.{start}
 use Rattle.heap.proofs.Laws.Reach.{mem-at}
-use Rattle.engine.specs.Turn.{Turned, goes, splits, value, ended, lost}
+use Rattle.engine.specs.Turn.{Turned, lost}
 use Rattle.engine.specs.Plain as Plain
 use Rattle.engine.specs.Compile.{Program, compile}
 use Rattle.engine.specs.Machine as Machine

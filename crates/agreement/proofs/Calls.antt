@@ -15,7 +15,7 @@ use Rattle.heap.proofs.Laws.Good.{Good}
 use Rattle.engine.specs.Plain.{walk, walk_call, no_func}
 use Rattle.engine.specs.Code.{Instr, emit}
 use Rattle.engine.specs.Compile.{Program, Positions, of_tree, of_funcs, offsets, flat, compile}
-use Rattle.engine.specs.Machine.{arity_of, st, at, own, exec, on_top}
+use Rattle.engine.specs.Machine.{arity_of, st, own, exec, on_top}
 use mathlib.Core.Option.{none}
 use Rattle.agreement.proofs.Fine.{Takes, FineTree}
 use Rattle.agreement.proofs.Decoding.{emit-append}

@@ -13,7 +13,6 @@ use Rattle.heap.specs.Graph.{Graph, Node, cell, var, fwd, look, follow, first_ca
 use Rattle.heap.proofs.Laws.Good.{Good, follow-ends, follow-real}
 use Rattle.heap.proofs.Laws.Forward.{Keeps, Call, look-follow}
 use Rattle.heap.proofs.Laws.First.{found}
-use Rattle.engine.specs.Turn.{value}
 use Rattle.engine.specs.Plain.{Reached, demands, narrows, rewrites, fails, misfits, stuck, walk, walk_call, no_func, step_at, turn_within, turn}
 use Rattle.engine.specs.Compile.{compile}
 use Rattle.engine.specs.Machine.{settle}

@@ -1,6 +1,6 @@
 -- What an accepted book's trees and terms are like, as far as the machine's agreement with the plain reading needs it.
 -- Assumes nothing.
-use Prim.Native.Nat.{ℕ, suc, ◌<◌}
+use Prim.Native.Nat.{ℕ, ◌<◌}
 use mathlib.Core.Path.{◌≡◌}
 use mathlib.Core.List.{List, [], ◌∷◌}
 use lib.ListN.{length, get_or}

@@ -19,7 +19,7 @@ use Rattle.heap.specs.Graph.{var, Comp}
 use Rattle.heap.specs.Build.{up_from, build_right, start}
 use Rattle.heap.proofs.Laws.Copies.{Whole}
 use Rattle.heap.proofs.Laws.Numbers.{up_from-mem}
-use Rattle.engine.specs.Turn.{Turned, goes, splits, value, ended}
+use Rattle.engine.specs.Turn.{Turned, goes, splits, value}
 use Rattle.engine.specs.Plain as Plain
 use Rattle.engine.specs.Compile.{Program, compile}
 use Rattle.engine.specs.Machine as Machine

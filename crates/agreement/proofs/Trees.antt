@@ -6,7 +6,6 @@ use native.Mathlib.Omega.{arith}
 use mathlib.Core.Path.{◌≡◌, refl, sym, ap, ◌∙◌}
 use mathlib.Core.Option.{Option, none, some}
 use mathlib.Core.Logic.{◌⊎◌, inl, inr}
-use native.Mathlib.Decide.{dec_lt}
 use native.Mathlib.Numerals.{one-add}
 use mathlib.Core.List.{List, [], ◌∷◌, ◌++◌, append-nil, map, reverse_aux, reverse_aux-reverse_aux-nil, Memᴰ}
 use lib.ListN.{length, get_or, drop, length-append, get_or-append, length-map, get_elem?}

@@ -1,1 +1,3 @@
+#![tactic(auto)]
+
 // agreement: theorems only, over the definitions of book, heap and engine.

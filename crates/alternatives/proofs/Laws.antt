@@ -1,7 +1,7 @@
 -- Laws of the nodes: a node's arguments read one by one, what is saved of a node, a node put back, a copy laid down beside it.
 -- Here, in order: arguments; a node saved; lists with a place set; a graph laid down; a copy poured.
 -- Assumes nothing.
-use Prim.Native.Nat.{ℕ, zero, suc, ◌+◌, ◌-◌, ◌*◌, ◌≤◌, ◌<◌}
+use Prim.Native.Nat.{ℕ, zero, suc, ◌+◌, ◌*◌, ◌≤◌, ◌<◌}
 use native.Mathlib.Omega.{arith}
 use native.Mathlib.Numerals.{add-one}
 use mathlib.Core.Path.{◌≡◌, refl, ap, sym, ◌∙◌, subst}
@@ -16,7 +16,6 @@ use lib.Dec.{leb, leb→le, nleb→lt}
 use Rattle.mem.specs.Words.{words}
 use Rattle.book.specs.Syntax.{con, fun}
 use Rattle.heap.specs.Graph.{Graph, Node, cell, var, fwd, node, args, Comp}
-use Rattle.heap.specs.Build.{up_from}
 use Rattle.heap.specs.Store.{Store, laid, moved}
 use Rattle.engine.specs.Machine as m
 use Rattle.standing.specs.Shared.{pour}

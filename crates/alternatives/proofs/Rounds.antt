@@ -1,21 +1,19 @@
 -- All copies, one behind the other: what holds before each, and what the last leaves.
 -- Here, in order: the model step by step; alternatives that stay; the terms; what a split gives; the rounds.
 -- Assumes nothing.
-use Prim.Native.Nat.{ℕ, zero, suc, ◌+◌, ◌-◌, ◌*◌, ◌≤◌, ◌<◌}
+use Prim.Native.Nat.{ℕ, zero, suc, ◌+◌, ◌-◌, ◌≤◌, ◌<◌}
 use native.Mathlib.Omega.{arith}
-use native.Mathlib.Nat.{add_assoc}
 use native.Mathlib.Numerals.{add-one}
 use mathlib.Core.Path.{◌≡◌, refl, ap, sym, ◌∙◌, subst}
-use mathlib.Core.Logic.{◌⊎◌, inl, inr}
 use mathlib.Core.Bool.{Bool, true, false, not}
 use mathlib.Core.Option.{Option, none, some}
 use mathlib.Core.List.{List, [], ◌∷◌, ◌++◌, append_assoc, append-nil, Memᴰ}
-use lib.ListN.{length, get_or, take, drop, length-take, length-drop}
+use lib.ListN.{length, get_or, drop, length-take, length-drop}
 use lib.Seq.{get_or-take, get_or-drop, drop-cons, drop-length}
 use lib.Dec.{ltb, ltb→lt, nltb→le}
-use Rattle.mem.specs.Words.{words, Only}
+use Rattle.mem.specs.Words.{Only}
 use Rattle.mem.proofs.Laws.{only_then, take-kept, drop-kept, part-before}
-use Rattle.heap.specs.Graph.{Graph, node, copy}
+use Rattle.heap.specs.Graph.{Graph, copy}
 use Rattle.heap.specs.Build.{up_from}
 use Rattle.heap.specs.Store.{Store}
 use Rattle.engine.specs.Turn.{forward}

@@ -1,14 +1,13 @@
 -- One copy: what it relies on, what it makes of the store, and what stays.
 -- Here, in order: numbers that are free; the part that the copy walks; the copy with its node put back.
 -- Assumes nothing.
-use Prim.Native.Nat.{ℕ, zero, suc, ◌+◌, ◌-◌, ◌*◌, ◌≤◌, ◌<◌}
+use Prim.Native.Nat.{ℕ, zero, suc, ◌+◌, ◌-◌, ◌≤◌, ◌<◌}
 use native.Mathlib.Omega.{arith}
 use mathlib.Core.Path.{◌≡◌, refl, ap, sym, ◌∙◌, subst}
 use mathlib.Core.Logic.{◌⊎◌, inl, inr, ◌≢◌}
 use mathlib.Core.Bool.{Bool, true, false}
-use mathlib.Core.Option.{Option, none, some}
 use mathlib.Core.List.Memᴰ
-use mathlib.Core.List.{List, [], ◌∷◌, Memᴰ}
+use mathlib.Core.List.{List, [], Memᴰ}
 use lib.ListN.{length, get_or, take, drop, set}
 use lib.Seq.{get_or-set_other, get_or-set_same}
 use Rattle.mem.specs.Words.{Only}
@@ -20,13 +19,12 @@ use Rattle.engine.specs.Machine as m
 use Rattle.standing.specs.Shared.{pour}
 use Rattle.store.specs.Regions.{Memory, graph_of, rest_of, store_of, Did, set_node}
 use Rattle.store.proofs.Laws.{length-graph}
-use Rattle.copier.specs.Listed.{Clean}
 use Rattle.copier.specs.Poured.{Walkable, PouredTo, given, comp_of, held_of}
 use Rattle.copier.specs.declared.Poured.{Poured}
 use Rattle.pool.specs.declared.Roots.{Roots}
 use Rattle.pool.specs.Ring.{held_by, roots_of, roots_at, scratch_at, RootsPut}
 use Rattle.alternatives.specs.declared.Saved.{Saved}
-use Rattle.alternatives.specs.Copies.{node_is, alt_in, Opens, Aside, as_if, OnePoured}
+use Rattle.alternatives.specs.Copies.{node_is, alt_in, Opens, as_if, OnePoured}
 use Rattle.alternatives.proofs.Laws.{with_node, put_back, pour-back}
 
 up_from-least : (n a k : ℕ) → Memᴰ k (up_from a n) → a ≤ k

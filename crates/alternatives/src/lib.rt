@@ -1,5 +1,7 @@
 // A copy of a computation for each of its alternatives, laid down in the store; their handles go to the scratch rows, in order.
 // Here, in order: a node's arguments; a node saved and put back; one copy; all of them.
+#![tactic(auto)]
+
 ghost use Rattle.std.specs.Prelude.{◌≡◌, ℕ, ◌+◌, ◌*◌, ◌<◌, ◌≤◌, length, take};
 ghost use Rattle.heap.specs.Graph as g;
 ghost use Rattle.store.specs.Regions.{Room, graph_of, Did, set_node};

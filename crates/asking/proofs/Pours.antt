@@ -21,7 +21,6 @@ use Rattle.heap.specs.Store.{Store, moved, laid}
 use Rattle.heap.proofs.Laws.Numbers.{up_from-at, up_from-length}
 use Rattle.store.specs.Regions.{graph_of, store_of}
 use Rattle.store.proofs.Laws.{length-graph}
-use Rattle.engine.specs.Machine as m
 use Rattle.standing.specs.Shared.{pour}
 use Rattle.pool.specs.declared.Roots.{Roots}
 use Rattle.pool.specs.Ring.{roots_of}

@@ -1,7 +1,7 @@
 -- A question's records, from the last to the first: each suffix of them is some terms, and one record more takes its arguments from these.
 -- Here, in order: the terms of a suffix; what each record is like; that what is read is so; what is known of an accepted question.
 -- Assumes nothing.
-use Prim.Native.Nat.{ℕ, zero, suc, ◌+◌, ◌-◌, ◌*◌, ◌≤◌, ◌<◌}
+use Prim.Native.Nat.{ℕ, zero, suc, ◌+◌, ◌*◌, ◌≤◌, ◌<◌}
 use native.Mathlib.Omega.{arith}
 use mathlib.Core.Path.{◌≡◌, refl, sym, ◌∙◌, subst}
 use mathlib.Core.Logic.{◌⊎◌, inl, inr}

@@ -1,4 +1,6 @@
 // The question's term, built at the first free numbers: fresh variables first, then its records from the last to the first.
+#![tactic(auto)]
+
 ghost use Rattle.std.specs.Prelude.{◌≡◌, ℕ, suc, ◌+◌, ◌*◌, ◌<◌, ◌≤◌, ◌∷◌, length, get_or, take};
 ghost use Rattle.heap.specs.Build.{up_from};
 ghost use Rattle.store.specs.Rows.{symbol_of};

@@ -4,21 +4,21 @@ use mathlib.Core.Path.{◌≡◌, refl, ap, sym, ◌∙◌, subst}
 use mathlib.Core.Bool.{Bool, true, false}
 use mathlib.Core.List.{List, [], ◌∷◌}
 use lib.ListN.{length, get_or, replicate}
-use lib.Dec.{ltb, leb, eqb}
+use lib.Dec.{ltb, leb}
 use native.Mathlib.Omega.{arith}
 use native.Mathlib.Numerals.{sub-one}
-use borrow.Author.Tests.{lt-ltb, le-ltb, leb-true, ltb-true, ltb-false, eq-eqb, ne_eqb}
+use borrow.Author.Tests.{leb-true, ltb-true, eq-eqb, ne_eqb}
 use Rattle.book.specs.Syntax.{Tree, norule, Func, Book}
 use Rattle.book.specs.declared.Sort.{Sort}
 use Rattle.book.specs.declared.Sort.TheVariants.{End}
 use Rattle.book.specs.declared.Rec.{Rec}
 use Rattle.book.specs.declared.Rec.TheVariants.{Of, Bad}
 use Rattle.book.specs.Record.{Got, got, fault, rec_at, scan, book_fits, func_arities}
-use Rattle.book.specs.Reading.{after, make, read_types, read_tree, read_funcs, read_book}
+use Rattle.book.specs.Reading.{read_types, read_tree, read_funcs, read_book}
 use Rattle.book.specs.Facts.{tree_from, func_of, TreeAt, TreeStands}
-use Rattle.book.proofs.Records.{Known, of-known, rec-end}
+use Rattle.book.proofs.Records.{of-known, rec-end}
 use Rattle.book.proofs.Ahead.{odd, after_both, Reach, stay, pass, In, in-got, Past, past-got, tree-past, types-in}
-use Rattle.book.proofs.Wholes.{make-both, Picked, picked, book-is}
+use Rattle.book.proofs.Wholes.{make-both, picked, book-is}
 
 module _ (s : List ℕ) (n k f : ℕ) where
   from-bad : {w : Sort} → rec_at s k ≡ Bad w → tree_from s n k f ≡ k

@@ -4,7 +4,6 @@
 -- Assumes nothing.
 use Rattle.std.specs.Prelude.{ℕ, suc, ◌+◌, ◌≤◌, ◌<◌, ◌≡◌, true, List, [], ◌∷◌, map, length, get_or, replicate}
 -- (the table, so that its rows are checked before anything that stands on the definitions)
-use Rattle.book.specs.Table.{every-row}
 use Rattle.book.specs.Syntax.{Symbol, con, fun, Term, Terms, app, slot, fresh, done, arg, Right, Tree, Trees, split, rule, norule, stop, child, Func, arity, Book, con_arities, cons_of}
 use Rattle.book.specs.Reading.{Slots, all_fit, under}
 

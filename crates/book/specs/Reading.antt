@@ -5,8 +5,7 @@
 use Rattle.std.specs.Prelude.{ℕ, zero, suc, ◌+◌, List, [], ◌∷◌, ◌++◌, map, Bool, true, false, ◌&&◌, length, get_or, set, replicate, leb, ltb, eqb}
 use Rattle.std.proofs.Math.Option.{Option, none, some}
 use Rattle.book.specs.Syntax.{Symbol, con, fun, Term, Terms, app, slot, fresh, done, arg, Right, Tree, Trees, split, rule, norule, stop, child, Func, arity, Book, con_arities, cons_of}
-use Rattle.book.specs.declared.Sort.{Sort}
-use Rattle.book.specs.declared.Sort.TheVariants.{Unknown, Cut, Range, Unexpected, End}
+use Rattle.book.specs.declared.Sort.TheVariants.{Range, Unexpected, End}
 use Rattle.book.specs.declared.Rec.{Rec}
 use Rattle.book.specs.declared.Rec.TheVariants.{Of, Bad}
 use Rattle.book.specs.Record.{Got, got, fault, rec_at, scan, book_fits, any_fits, func_arities}

@@ -5,7 +5,7 @@
 use Rattle.std.specs.Prelude.{ℕ, zero, suc, ◌+◌, List, [], ◌∷◌, Bool, true, false, ◌&&◌, length, get_or, leb, ltb, eqb}
 use Rattle.std.proofs.Math.Option.{Option, none, some}
 use Rattle.book.specs.declared.Sort.{Sort}
-use Rattle.book.specs.declared.Sort.TheVariants.{Unknown, Cut, Range, Unexpected, End}
+use Rattle.book.specs.declared.Sort.TheVariants.{Unknown, Cut, Range, End}
 use Rattle.book.specs.declared.Rec.{Rec}
 use Rattle.book.specs.declared.Rec.TheVariants.{Of, Bad}
 

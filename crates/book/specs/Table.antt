@@ -2,7 +2,7 @@
 -- Here, in order: a row; the table; the one statement on all of its rows.
 -- Not here: rows of the run (engine).
 -- Assumes nothing.
-use Rattle.std.specs.Prelude.{ℕ, zero, suc, ◌+◌, List, [], ◌∷◌, ◌++◌, map, ◌≡◌, refl}
+use Rattle.std.specs.Prelude.{ℕ, zero, suc, List, [], ◌∷◌, ◌++◌, map, ◌≡◌, refl}
 use Rattle.book.specs.Syntax.{arity}
 use Rattle.book.specs.declared.Sort.{Sort}
 use Rattle.book.specs.declared.Sort.TheVariants.{Unknown, Cut, Range, Unexpected, End}
@@ -10,7 +10,7 @@ use Rattle.book.specs.declared.Verdict.{Verdict}
 use Rattle.book.specs.declared.Verdict.TheVariants.{Accepted, BookFault, QuestionFault}
 use Rattle.book.specs.Record.{body_of, body_byte, rec_at, scan, book_fits, any_fits, funcs_from, func_arities}
 use Rattle.book.specs.Reading.{after, make, pick, slot_case, read_head, first_terms, others_of, joined, read_terms, the_one, read_right, read_rights, all_fit, splits, under, read_trees, read_tree, read_cons, read_types, read_funcs, read_book, last, read_alone, read_question}
-use Rattle.book.specs.Answers.{Told, told, zeros, told_of, on_book, check_book, on_question, on_both, check_question}
+use Rattle.book.specs.Answers.{Told, told, zeros, told_of, on_question, on_both, check_question}
 
 -- a verdict with what it tells
 pub data Seen : Type 0 where

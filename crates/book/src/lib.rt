@@ -1,6 +1,8 @@
 // The checker of books and questions: what is read, left to right, or the first fault's sort and place.
 // Here: the forms that the modules share. The modules, lowest first: record, term, front, tree, shelf, judge.
 // Not here: what a book says and how its bytes are read (specs/Syntax, Record, Reading), what a check answers (specs/Answers).
+#![tactic(auto)]
+
 mod front;
 mod judge;
 mod record;

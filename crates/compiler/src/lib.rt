@@ -1,6 +1,8 @@
 // The compiler: from an accepted book to document 01's code records, and the machine's tables.
 // Here: the forms that the modules share. The modules, lowest first: code, position, term, rule, arm, tree, length, lore, tables, whole.
 // Not here: reading (crate book), the definition of the code (engine's Compile).
+#![tactic(auto)]
+
 mod arm;
 mod code;
 mod length;

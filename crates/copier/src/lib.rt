@@ -1,5 +1,7 @@
 // The copy of a computation, poured at the next free numbers. The nodes seen are the words of the store's list, in order of first
 // sight; each has its place + 1 in its place word, so that a shared node is copied once.
+#![tactic(auto)]
+
 ghost use Rattle.std.specs.Prelude.{◌≡◌, [], ◌∷◌, map, ℕ, ◌+◌, ◌<◌, ◌≤◌, length, get_or};
 ghost use Rattle.heap.specs.Graph as g;
 ghost use Rattle.store.specs.Rows.{symbol_of};

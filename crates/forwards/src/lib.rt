@@ -8,6 +8,8 @@
 //
 // Here, in order: where the second node of a chain is led; both led on; the chain from a stack's top.
 // specs/Shortcut says what is written; proofs/Moments that every computation stands in the store as before.
+#![tactic(auto)]
+
 ghost use Rattle.std.specs.Prelude.{◌≡◌, suc, ◌<◌};
 ghost use Rattle.heap.specs.Graph as g;
 ghost use Rattle.store.specs.Regions.{Room, graph_of};

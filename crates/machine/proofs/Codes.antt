@@ -13,7 +13,7 @@ use native.Mathlib.Omega.{arith}
 use native.Mathlib.Nat.{add-zero, add_assoc}
 use native.Mathlib.Numerals.{add-one}
 use Rattle.book.specs.Syntax.{con, fun}
-use Rattle.engine.specs.Code.{Instr, branch, go, store_var, make_var, make_term, wrong, decode, bodies, symbol, from_four, width}
+use Rattle.engine.specs.Code.{Instr, branch, store_var, make_var, make_term, wrong, decode, bodies, symbol, from_four, width}
 use Rattle.store.specs.Rows.{symbol_of}
 use Rattle.store.specs.declared.Head.{Head}
 use Rattle.store.specs.declared.Head.TheVariants.{Makes, Calls}

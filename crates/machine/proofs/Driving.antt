@@ -1,6 +1,6 @@
 -- Laws of the call on the stack's top: its code.
 -- Assumes nothing.
-use Prim.Native.Nat.{ℕ, zero, suc, ◌+◌, ◌-◌, ◌*◌, ◌≤◌, ◌<◌}
+use Prim.Native.Nat.{ℕ, ◌-◌, ◌<◌}
 use mathlib.Core.Path.{◌≡◌, refl, ap, sym, ◌∙◌, subst}
 use mathlib.Core.Option.{none}
 use mathlib.Core.List.{List, [], ◌∷◌}
@@ -15,7 +15,6 @@ use Rattle.engine.specs.Compile.{Program}
 use Rattle.engine.specs.Machine as m
 use Rattle.book.specs.declared.FunNo.{FunNo}
 use Rattle.store.specs.declared.Seen.{Seen}
-use Rattle.machine.specs.Tables.{Has}
 use Rattle.machine.specs.View.{stack_of, pre_terms, terms_of, free_vars, cur_in, state_of, stop_of, called_of}
 use Rattle.machine.specs.Contract.{Low, Came, ByTables, exec_on}
 use Rattle.machine.specs.Drive.{top_stop, Topped}

@@ -1,7 +1,7 @@
 -- Laws of the registers in the memory: the pre-term stack, the free variables, the stack of links.
 -- Assumes nothing.
 use Prim.Native.Nat.{ℕ, zero, suc, ◌+◌, ◌-◌, ◌≤◌, ◌<◌}
-use mathlib.Core.Path.{◌≡◌, refl, ap, sym, ◌∙◌}
+use mathlib.Core.Path.{◌≡◌, refl, ap, ◌∙◌}
 use mathlib.Core.Option.{none, some}
 use mathlib.Core.List.{List, ◌∷◌}
 use lib.ListN.{length, get_or, get_elem?, take, drop, set, length-take, drop_of_length-le}

@@ -2,6 +2,8 @@
 // Here: the registers and the answers. code: bytes and operations; tables: arities, starts and arms; ops, makes: the instructions;
 // steps: code until it ends; calls: calls that are walked instead, the settled stack.
 // specs/View says which state of the machine's definition memory and registers are.
+#![tactic(auto)]
+
 pub mod calls;
 pub mod code;
 pub mod makes;

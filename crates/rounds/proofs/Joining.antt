@@ -1,17 +1,15 @@
 -- Alternatives that join the pool, one by one.
 -- Here, in order: a scratch row as an alternative; on the way; all of them.
 -- Assumes nothing.
-use Prim.Native.Nat.{ℕ, zero, suc, ◌+◌, ◌*◌, ◌≤◌, ◌<◌}
+use Prim.Native.Nat.{ℕ, suc, ◌+◌, ◌*◌}
 use native.Mathlib.Omega.{arith}
 use native.Mathlib.Numerals.{add-one}
-use native.Mathlib.Nat.{add-zero, add-suc}
-use mathlib.Core.Path.{◌≡◌, refl, ap, sym, subst, ◌∙◌}
+use native.Mathlib.Nat.{add-zero}
+use mathlib.Core.Path.{◌≡◌, ap, sym, subst, ◌∙◌}
 use mathlib.Core.List.{List, [], ◌∷◌, ◌++◌, append-nil, append_assoc}
-use lib.ListN.{length}
 use Rattle.engine.specs.Machine as m
-use Rattle.pool.specs.declared.Roots.{Roots}
 use Rattle.pool.specs.declared.Held.{Held}
-use Rattle.pool.specs.Ring.{chain, stack_of, roots_of, roots_at, held_by, held_in, pool_of, scratch_at, RestOnly, RootsGot, Pushed}
+use Rattle.pool.specs.Ring.{chain, stack_of, roots_of, roots_at, held_in, pool_of, scratch_at, RestOnly, RootsGot, Pushed}
 use Rattle.pool.proofs.Laws.{only_none, both-only, roots-behind}
 use Rattle.alternatives.specs.Copies.{alt_in, alts_in}
 use Rattle.rounds.specs.Around.{Joined}

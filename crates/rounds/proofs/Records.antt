@@ -1,19 +1,18 @@
 -- A result's record: kind and turn, then the terms.
 -- Here, in order: the length of a record; no room; the record written.
 -- Assumes nothing.
-use Prim.Native.Nat.{ℕ, zero, suc, ◌+◌, ◌*◌, ◌-◌, ◌/◌, ◌%◌, ◌≤◌, ◌<◌}
+use Prim.Native.Nat.{ℕ, suc, ◌+◌, ◌-◌, ◌/◌, ◌%◌, ◌≤◌, ◌<◌}
 use native.Mathlib.Omega.{arith}
 use native.Mathlib.Nat.{zero-add}
 use mathlib.Core.Path.{◌≡◌, refl, ap, sym, ◌∙◌, subst}
 use mathlib.Core.Bool.{Bool, true, false}
-use mathlib.Core.List.{List, [], ◌∷◌, ◌++◌, append_assoc}
+use mathlib.Core.List.{List, ◌∷◌, ◌++◌}
 use lib.ListN.{length, take, drop, set, length-take, length-drop}
 use lib.Dec.{leb}
 use lib.Seq.{sets, sets-eq, length-sets}
 use borrow.Author.Tests.{leb-true, leb-false, le-leb, lt-leb}
 use Rattle.engine.specs.Code.{four}
 use Rattle.engine.specs.Run.{result_record}
-use Rattle.writer.specs.declared.Fit.{Fit}
 use Rattle.writer.specs.declared.Fit.TheVariants.{Fits, Over}
 use Rattle.heap.specs.Graph.{Graph, write_each}
 use Rattle.store.specs.Regions.{graph_of}
@@ -23,7 +22,6 @@ use Rattle.writer.specs.Written.{Clean, Written, over}
 use Rattle.writer.proofs.Turning.{kept_then}
 use Rattle.writer.proofs.Telling.{over-then}
 use Rattle.writer.proofs.EachTerm.{over-lent}
-use Rattle.rounds.specs.declared.Recorded.{Recorded}
 use Rattle.rounds.specs.Around.{headed, ResultPut}
 
 -- five bytes before the terms

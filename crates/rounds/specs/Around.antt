@@ -2,7 +2,7 @@
 -- Here, in order: memory made ready; alternatives that joined the pool; a result's record.
 -- Not here: the pool's layout (pool, Ring), the alternatives' (alternatives, Copies), the bytes of a result's terms (heap, Graph).
 -- Assumes nothing.
-use Rattle.std.specs.Prelude.{ℕ, suc, ◌+◌, ◌*◌, ◌≡◌, true, false, List, ◌∷◌, ◌++◌, length, take, drop, leb}
+use Rattle.std.specs.Prelude.{ℕ, ◌+◌, ◌*◌, ◌≡◌, true, false, List, ◌∷◌, ◌++◌, length, take, drop, leb}
 use Rattle.std.proofs.lemmas.List.Edits.{sets}
 use Rattle.mem.specs.Words.{words}
 use Rattle.store.specs.Regions.{graph_of, rest_of}

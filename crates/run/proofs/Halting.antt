@@ -2,7 +2,7 @@
 -- Here, in order: a moment with the front's stack empty; before a turn; entries that stand for one another; after a turn that does not go on: the store, the front's row, a stack that is
 -- not dropped; the moment; the memory after it.
 -- Assumes nothing.
-use Prim.Native.Nat.{ℕ, suc, ◌+◌, ◌*◌, ◌-◌, ◌≤◌, ◌<◌}
+use Prim.Native.Nat.{ℕ, suc, ◌+◌, ◌*◌, ◌≤◌, ◌<◌}
 use native.Mathlib.Omega.{arith}
 use mathlib.Core.Path.{◌≡◌, refl, ap, sym, ◌∙◌, subst}
 use mathlib.Core.Logic.{◌⊎◌, inl, inr, ◌≢◌}
@@ -12,7 +12,6 @@ use lib.ListN.{length, get_or, take, drop}
 use lib.Seq.{take-take, get_or-take}
 use Rattle.mem.proofs.Laws.{drop-take}
 use Rattle.book.specs.Syntax.{Book}
-use Rattle.book.specs.Answers.{Counts}
 use Rattle.heap.specs.Alike.{Each}
 use Rattle.heap.specs.Graph.{Graph, node}
 use Rattle.heap.specs.Store.{Store}
@@ -28,7 +27,7 @@ use Rattle.standing.proofs.Step.{settle-alike}
 use Rattle.store.specs.Regions.{graph_of, links_of, rest_of, store_of}
 use Rattle.alternatives.proofs.Steps.{nodes-are}
 use Rattle.pool.specs.declared.Held.{Held}
-use Rattle.pool.specs.Ring.{roots_at, stack_of, held_by, held_in, row_of, place_of, pool_of, SameLinks, RowGot}
+use Rattle.pool.specs.Ring.{roots_at, stack_of, held_by, held_in, row_of, SameLinks, RowGot}
 use Rattle.pool.proofs.Rings.{pool-first, chain-kept}
 use Rattle.turns.specs.declared.What.TheVariants.{Went}
 use Rattle.turns.specs.declared.Turned as t

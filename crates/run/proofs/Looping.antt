@@ -1,12 +1,12 @@
 -- A run from a state on: what is still to come is what was to come at the start.
 -- Here, in order: what comes of a step, taken apart; on the way; at the start, a step further, at the end.
 -- Assumes nothing.
-use Prim.Native.Nat.{ℕ, zero, suc, ◌+◌, ◌*◌, ◌-◌, ◌≤◌, ◌<◌}
+use Prim.Native.Nat.{ℕ, suc, ◌+◌, ◌-◌, ◌≤◌}
 use native.Mathlib.Omega.{arith}
 use native.Mathlib.Numerals.{add-one}
 use mathlib.Core.Path.{◌≡◌, refl, ap, sym, ◌∙◌, subst}
 use mathlib.Core.List.{List}
-use lib.ListN.{length, take, drop}
+use lib.ListN.{take, drop}
 use lib.Seq.{drop-drop}
 use Rattle.book.specs.Syntax.{Book}
 use Rattle.book.specs.Answers.{Counts}
@@ -16,22 +16,21 @@ use Rattle.engine.specs.Compile.{compile}
 use Rattle.engine.specs.Machine as m
 use Rattle.engine.specs.Run as e
 use Rattle.agreement.proofs.Calls.{FineBook}
-use Rattle.standing.specs.Shared.{StoreMoment, store_moment, StoreNext, store_ends, store_next}
+use Rattle.standing.specs.Shared.{StoreMoment, store_moment, store_ends, store_next}
 use Rattle.standing.specs.Moments.{StandsFor, stands-for, StandsNext, both_end, both_go}
 use Rattle.run.specs.declared.State.{State}
 use Rattle.run.specs.declared.Answer.{Answer}
 use Rattle.run.specs.declared.Stepped.{Stepped}
 use Rattle.run.specs.declared.Stepped.TheVariants.{Ended, On}
-use Rattle.run.specs.declared.Done.{Done}
 use Rattle.run.specs.Given.{answer_is}
 use Rattle.run.specs.Between.{counts_in, moment_of, next_of, written_by, Bounded, Runs, StepTaken, RunDone}
 
 module _ (book : Book) (B : FineBook book) (l : e.Limits) where
   next-of : (u : e.Next m.Kept) (y : StoreMoment) → StandsNext book B l u (store_next y) → (x : e.Moment m.Kept) × (u ≡ e.next x) × StandsFor book B l x y
-  next-of (e.next x) y (both_go S) = (x, refl, S)
+  next-of _ y (both_go {x} S) = (x, refl, S)
 
   ends_of : (u : e.Next m.Kept) (a : e.Answer) → StandsNext book B l u (store_ends a) → u ≡ e.ends a
-  ends_of (e.ends a') a both_end = refl
+  ends_of _ a both_end = refl
 
   closed_at : (code : List ℕ) (a : e.Answer) (x : e.Moment m.Kept) (μ : Store) (cs : List m.Held) (κ : Counts) (out : List ℕ) → StandsFor book B l x (store_moment μ cs κ out) → e.closed code (a, x) ≡ e.outcome a κ out code
   unfolding e.closed

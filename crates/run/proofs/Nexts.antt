@@ -7,12 +7,10 @@ use native.Mathlib.Numerals.{add-one}
 use mathlib.Core.Path.{◌≡◌, refl, ap, sym, ◌∙◌, subst}
 use mathlib.Core.Bool.{Bool, true, false}
 use mathlib.Core.List.{List, [], ◌∷◌, ◌++◌}
-use lib.ListN.{length, get_or, take, drop, length-append, length-take}
+use lib.ListN.{length, take, length-append}
 use lib.Dec.{leb, ltb}
-use lib.Seq.{length-take-le}
-use borrow.Author.Tests.{lt-ltb, le-ltb}
+use borrow.Author.Tests.{lt-ltb}
 use Rattle.book.specs.Answers.{Counts, counts}
-use Rattle.heap.specs.Graph.{write_each}
 use Rattle.heap.specs.Build.{up_from}
 use Rattle.heap.specs.Store.{Store}
 use Rattle.heap.proofs.Laws.Numbers.{up_from-length}
@@ -22,31 +20,29 @@ use Rattle.engine.specs.Compile.{compile}
 use Rattle.engine.specs.Machine as m
 use Rattle.engine.specs.Run as e
 use Rattle.engine.specs.Run.{◌⊕◌}
-use Rattle.standing.specs.Shared.{StoreMoment, store_moment, StoreNext, store_ends, store_next, Took, went, split, wrote, ended, lost, none_left, made_in, store_turn, store_taken, store_step}
+use Rattle.standing.specs.Shared.{store_moment, StoreNext, store_ends, store_next, Took, went, split, ended, none_left, made_in, store_turn, store_taken, store_step}
 use Rattle.standing.specs.Stands.{World, Ours, After, after-ended}
-use Rattle.standing.specs.Moments.{Room, StandsFor, stands-for, StandsNext, both_end, both_go}
+use Rattle.standing.specs.Moments.{StandsFor, stands-for, StandsNext, both_go}
 use Rattle.standing.proofs.Turns.{store-stands}
 use Rattle.standing.proofs.Stands.{pool-frame}
 use Rattle.standing.proofs.Room.{room_bound, room-ended, nodes-ended}
 use Rattle.standing.proofs.Moments.{step-stands, turn-known}
-use Rattle.store.specs.Regions.{graph_of, links_of, rest_of, store_of}
+use Rattle.store.specs.Regions.{graph_of, store_of}
 use Rattle.pool.specs.declared.Held.{Held}
-use Rattle.pool.specs.Ring.{place_of, held_in, pool_of, row_of, RowGot, RestOnly}
-use Rattle.pool.proofs.Rings.{pool-length, pool-first}
-use Rattle.alternatives.specs.Copies.{alt_in, alts_in}
-use Rattle.writer.specs.Walk.{Kept}
-use Rattle.turns.specs.declared.What.{What}
-use Rattle.turns.specs.declared.What.TheVariants.{Went, Split, Wrote, Failed, Misfit, NoneLeft, Lost}
+use Rattle.pool.specs.Ring.{place_of, held_in, pool_of, RowGot}
+use Rattle.pool.proofs.Rings.{pool-length}
+use Rattle.alternatives.specs.Copies.{alts_in}
+use Rattle.turns.specs.declared.What.TheVariants.{Went, Split, Failed, Misfit, NoneLeft, Lost}
 use Rattle.turns.specs.declared.Turned as t
-use Rattle.turns.specs.Front.{Front, Stays, TurnTaken, took_of, with_top}
+use Rattle.turns.specs.Front.{Stays, TurnTaken, took_of, with_top}
 use Rattle.run.specs.declared.State.{State}
-use Rattle.run.specs.declared.Answer.TheVariants.{Emptied, Spent, NoNodes, NoPlaces, NoRoom}
+use Rattle.run.specs.declared.Answer.TheVariants.{NoNodes, NoPlaces}
 use Rattle.run.specs.declared.Stepped.{Stepped}
 use Rattle.run.specs.declared.Stepped.TheVariants.{Ended, On}
 use Rattle.run.specs.Given.{answer_is}
 use Rattle.run.specs.Between.{counts_in, moment_of, next_of, Bounded, Runs}
-use Rattle.run.specs.Arms.{after_turn, after_end, after_went, after_split, after_value, WentOn, Spread, spread_by, Valued, value_by}
-use Rattle.run.proofs.Fronts.{Here, L, base, μ, rest, moment-front, H, front, elsewhere, rest-stays, none-waits}
+use Rattle.run.specs.Arms.{after_turn, after_end, after_went, after_split, after_value, WentOn, Spread, spread_by}
+use Rattle.run.proofs.Fronts.{Here, L, base, rest, moment-front, H, front, elsewhere, rest-stays}
 
 -- how many nodes a turn made
 made-is : (L a b : ℕ) (s s' : List ℕ) → a ≤ b → b ≤ L → a + made_in (store_of L a s) (store_of L b s') ≡ b

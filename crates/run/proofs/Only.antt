@@ -2,12 +2,9 @@
 -- Here, in order: answers and counts are told apart; no two outcomes; the plain reading.
 -- Assumes nothing.
 use Prim.Native.Nat.{ℕ}
-use native.Mathlib.Omega.{arith}
 use mathlib.Core.Path.{◌≡◌, refl, ap, sym, subst, ◌∙◌}
 use mathlib.Core.List.{List}
 use lib.ListN.{length}
-use Rattle.book.specs.Answers.{Counts, counts}
-use Rattle.book.specs.declared.Sort.{Sort}
 use Rattle.engine.specs.Run as e
 use Rattle.agreement.proofs.Runs.{agree}
 use Rattle.run.specs.declared.Limits.{Limits}

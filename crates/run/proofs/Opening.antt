@@ -1,40 +1,35 @@
 -- A question asked: the first moment stands in the memory, or the question's nodes do not fit.
 -- Here, in order: the question's book by its arities; the store before; nodes that do not fit; the first state; the run from it.
 -- Assumes nothing.
-use Prim.Native.Nat.{ℕ, zero, suc, ◌+◌, ◌*◌, ◌-◌, ◌≤◌, ◌<◌}
+use Prim.Native.Nat.{ℕ, suc, ◌+◌, ◌*◌, ◌-◌, ◌≤◌, ◌<◌}
 use native.Mathlib.Omega.{arith}
 use mathlib.Core.Path.{◌≡◌, refl, ap, sym, ◌∙◌, subst}
-use mathlib.Core.Bool.{Bool, true, false}
-use mathlib.Core.Option.{Option, none, some}
-use mathlib.Core.List.{List, [], ◌∷◌, ◌++◌, map}
-use lib.ListN.{length, get_or, take, drop}
+use mathlib.Core.Bool.{true, false}
+use mathlib.Core.Option.{none, some}
+use mathlib.Core.List.{List, [], ◌∷◌, map}
+use lib.ListN.{length, get_or, drop}
 use lib.Seq.{get_or-take}
-use Rattle.mem.specs.Words.{words}
-use Rattle.book.specs.Syntax.{Symbol, con, fun, Right, arity, con_arities}
+use Rattle.book.specs.Syntax.{Symbol, con, fun, arity, con_arities}
 use Rattle.book.specs.Accepted.{arity_in}
-use Rattle.book.specs.Answers.{counts, zeros}
+use Rattle.book.specs.Answers.{counts}
 use Rattle.book.proofs.Acceptance.{question-fine}
 use Rattle.heap.specs.Build.{up_from, start}
-use Rattle.heap.specs.Store.{Store}
 use Rattle.engine.specs.Compile.{compile}
 use Rattle.engine.specs.Machine as m
 use Rattle.engine.specs.Run as e
 use Rattle.agreement.proofs.Fine.{FineTerm}
 use Rattle.agreement.proofs.Accept.{question-of}
-use Rattle.standing.specs.Shared.{pour, StoreMoment, store_moment}
+use Rattle.standing.specs.Shared.{pour, store_moment}
 use Rattle.standing.specs.Stands.{Ready}
 use Rattle.standing.specs.Moments.{StandsFor}
 use Rattle.standing.proofs.Room.{room-ready, room_fits, room-short}
 use Rattle.standing.proofs.Stands.{pour-none}
 use Rattle.standing.proofs.OnStore.{ready-fresh, question-poured, opening-stands}
-use Rattle.store.specs.Regions.{Room, AllRoom, graph_of, links_of, rest_of, store_of}
+use Rattle.store.specs.Regions.{AllRoom, graph_of, links_of, rest_of, store_of}
 use Rattle.store.proofs.Laws.{length-graph}
 use Rattle.seek.specs.Walkable.{Clear}
 use Rattle.seek.proofs.Survives.{clear-closed, clear-resumes}
-use Rattle.copier.specs.Listed.{Clean}
 use Rattle.machine.specs.Tables.{Has}
-use Rattle.pool.specs.declared.Held.{Held}
-use Rattle.pool.specs.declared.Roots.{Roots}
 use Rattle.pool.specs.Ring.{held_in, pool_of, Pushed}
 use Rattle.asking.specs.declared.Built.{Built}
 use Rattle.asking.specs.Question.{Space, Arities, AskedOf, answer_of, Asked}

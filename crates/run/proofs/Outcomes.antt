@@ -2,11 +2,11 @@
 -- Here, in order: lent memory that nothing was written into; the refusals, in their order; what the limits say; the question asked; the outcome of a run that is not refused;
 -- the part of work memory that is asked.
 -- Assumes nothing.
-use Prim.Native.Nat.{ℕ, ◌+◌, ◌≤◌}
+use Prim.Native.Nat.{ℕ, ◌≤◌}
 use native.Mathlib.Omega.{arith}
 use mathlib.Core.Path.{◌≡◌, refl, ap, sym, ◌∙◌, subst}
 use mathlib.Core.Bool.{Bool, true, false, ◌&&◌}
-use mathlib.Core.List.{List, [], ◌∷◌, ◌++◌}
+use mathlib.Core.List.{List, ◌++◌}
 use lib.ListN.{length, take, drop, take-append-drop, length-append}
 use lib.Seq.{length-take-le, take_at, drop_at}
 use lib.Dec.{leb}
@@ -131,6 +131,12 @@ refusal-high e.bad_limits x = omega arith
 refusal-high (e.bad_book w p) x = omega arith
 refusal-high (e.bad_question w p) x = omega arith
 refusal-high e.long_code x = omega arith
+refusal-high e.emptied x = absurd x
+refusal-high e.spent x = absurd x
+refusal-high e.no_nodes x = absurd x
+refusal-high e.no_places x = absurd x
+refusal-high e.no_room x = absurd x
+refusal-high e.never x = absurd x
 
 -- a run that is done: what was written stands at the start, and beyond it all is as lent
 gives-done : (d : Done) (o : e.Outcome) (r : Outcome) (written work work' code code' results results' : List ℕ) → o ≡ e.outcome (answer_is d.answer) (counts_in d.state) (take d.state.written results') written → r ≡ given_by d

@@ -8,7 +8,7 @@ use Rattle.engine.specs.Compile.{compile}
 use Rattle.engine.specs.Machine as m
 use Rattle.engine.specs.Run as e
 use Rattle.agreement.proofs.Calls.{FineBook}
-use Rattle.standing.specs.Shared.{StoreNext, store_ends, store_next}
+use Rattle.standing.specs.Shared.{StoreNext}
 use Rattle.standing.specs.Moments.{shown, shown_next, store_shown, store_shown_next, StandsNext, both_end, both_go}
 use Rattle.standing.proofs.Moments.{stands-shown}
 use Rattle.run.specs.declared.State.{State}
@@ -19,8 +19,8 @@ use Rattle.run.specs.Between.{moment_of, next_of, Runs, Dropped, bare, store_bar
 
 next-shown : (book : Book) (B : FineBook book) (l : e.Limits) (u : e.Next m.Kept) (v : StoreNext) → StandsNext book B l u v → store_shown_next v ≡ shown_next u
 unfolding shown_next store_shown_next
-next-shown book B l (e.ends a) (store_ends a') both_end = refl
-next-shown book B l (e.next x) (store_next y) (both_go S) = ap e.next (stands-shown book B l x y S)
+next-shown book B l _ _ both_end = refl
+next-shown book B l _ _ (both_go {x} {y} S) = ap e.next (stands-shown book B l x y S)
 
 -- A step gives the definition's answer, or a state that is shown as the definition's next moment is.
 pub step-shows : (l : e.Limits) (n : ℕ) (code : List ℕ) (st : State) (s s' results results' : List ℕ) (r : Stepped) → StepTaken l n code st s s' results results' r → (R : Runs l n code st s results)

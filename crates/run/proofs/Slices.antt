@@ -1,14 +1,13 @@
 -- Words of a memory whose end was lent on.
 -- Here, in order: words of two lists; a memory whose part from an even place on is another; the rest's words there.
 -- Assumes nothing.
-use Prim.Native.Nat.{ℕ, zero, suc, ◌+◌, ◌*◌, ◌-◌, ◌≤◌, ◌<◌}
+use Prim.Native.Nat.{ℕ, zero, suc, ◌+◌, ◌*◌, ◌-◌, ◌≤◌}
 use native.Mathlib.Omega.{arith}
-use mathlib.Core.Path.{◌≡◌, refl, ap, sym, ◌∙◌, subst}
+use mathlib.Core.Path.{◌≡◌, refl, ap, ◌∙◌}
 use mathlib.Core.List.{List, [], ◌∷◌, ◌++◌, append-nil}
-use lib.ListN.{length, get_or, take, drop, length-append, length-take, length-drop, drop_of_length-le}
+use lib.ListN.{length, get_or, take, drop, length-drop, drop_of_length-le}
 use lib.Seq.{get_or-drop, get_or-append-add, length-take-le}
 use Rattle.mem.specs.Words.{words}
-use Rattle.mem.proofs.Laws.{length-words}
 use Rattle.store.specs.Regions.{rest_of}
 
 pub words_append : (k : ℕ) (a b : List ℕ) → length a ≡ 2 * k → words (a ++ b) ≡ words a ++ words b

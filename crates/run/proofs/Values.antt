@@ -1,7 +1,7 @@
 -- A step that ends the run before a turn, and one whose front is a value.
 -- Here, in order: an empty pool; a budget that is used; the handles of the front; what may be read for its result; the result's record.
 -- Assumes nothing.
-use Prim.Native.Nat.{ℕ, zero, suc, ◌+◌, ◌*◌, ◌-◌, ◌≤◌, ◌<◌}
+use Prim.Native.Nat.{ℕ, suc, ◌+◌, ◌*◌, ◌-◌, ◌≤◌, ◌<◌}
 use native.Mathlib.Omega.{arith}
 use native.Mathlib.Numerals.{add-one}
 use mathlib.Core.Path.{◌≡◌, refl, ap, sym, ◌∙◌, subst}
@@ -11,8 +11,8 @@ use mathlib.Core.List.{List, [], ◌∷◌, ◌++◌, Memᴰ}
 use lib.ListN.{length, get_or, take, drop, length-append}
 use lib.Dec.{leb, ltb}
 use lib.Seq.{length-take-le, take_at}
-use borrow.Author.Tests.{lt-ltb, le-ltb}
-use Rattle.book.specs.Answers.{Counts, counts}
+use borrow.Author.Tests.{le-ltb}
+use Rattle.book.specs.Answers.{counts}
 use Rattle.heap.specs.Graph.{Graph, write_each}
 use Rattle.heap.specs.Build.{up_from}
 use Rattle.heap.specs.Store.{Store}
@@ -20,15 +20,15 @@ use Rattle.engine.specs.Compile.{compile}
 use Rattle.engine.specs.Machine as m
 use Rattle.engine.specs.Run as e
 use Rattle.engine.specs.Run.{◌⊕◌}
-use Rattle.standing.specs.Shared.{StoreMoment, store_moment, StoreNext, store_ends, store_next, wrote, store_taken, store_step}
+use Rattle.standing.specs.Shared.{store_moment, StoreNext, store_ends, store_next, wrote, store_taken, store_step}
 use Rattle.standing.specs.Moments.{StandsNext}
 use Rattle.standing.proofs.Moments.{step-stands}
 use Rattle.standing.proofs.Walks.{stands-part}
 use Rattle.store.specs.Regions.{graph_of, links_of, rest_of, store_of}
 use Rattle.pool.specs.declared.Held.{Held}
-use Rattle.pool.specs.Ring.{place_of, held_by, held_in, roots_of, pool_of, row_of, RowGot}
+use Rattle.pool.specs.Ring.{place_of, held_in, roots_of, pool_of, row_of, RowGot}
 use Rattle.pool.proofs.Rings.{pool-first, pool-kept, place_inside}
-use Rattle.writer.specs.Walk.{Kept, Reads}
+use Rattle.writer.specs.Walk.{Reads}
 use Rattle.turns.specs.declared.What.TheVariants.{Wrote}
 use Rattle.turns.specs.declared.Turned as t
 use Rattle.turns.specs.Front.{TurnTaken, took_of}

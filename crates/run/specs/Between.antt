@@ -20,7 +20,6 @@ use Rattle.copier.specs.Listed.{Clean}
 use Rattle.machine.specs.Tables.{Has}
 use Rattle.pool.specs.Ring.{pool_of}
 use Rattle.run.specs.declared.Answer.{Answer}
-use Rattle.run.specs.declared.Limits.{Limits}
 use Rattle.run.specs.declared.State.{State}
 use Rattle.run.specs.declared.Stepped.{Stepped}
 use Rattle.run.specs.declared.Stepped.TheVariants.{Ended, On}

@@ -1,6 +1,8 @@
 // The run: a book, a question and limits, with three lent memories; the answer, the counts and the results.
 // Here: what is lent and given. The modules, lowest first: bounds, steps, loops, asks, tables, setup, whole.
 // specs/Given has the contract.
+#![tactic(auto)]
+
 use book::Sort;
 
 mod asks;

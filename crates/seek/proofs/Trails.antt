@@ -8,7 +8,6 @@ use mathlib.Core.Logic.{◌≢◌}
 use mathlib.Core.Option.{some}
 use mathlib.Core.List.{List}
 use lib.ListN.{length, get_or}
-use Rattle.book.specs.Syntax.{con}
 use Rattle.heap.specs.Graph.{Graph, node, follow, args, first_call}
 use Rattle.heap.proofs.Laws.Alike.{leads-follow, leads-self, leads-end}
 use Rattle.heap.proofs.Laws.Reach.{mem-at}

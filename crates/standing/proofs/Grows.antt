@@ -17,7 +17,6 @@ use Rattle.heap.specs.Place.{here}
 use Rattle.heap.specs.Graph.{Graph, Node, var, node, look, args}
 use Rattle.heap.proofs.Laws.Alike.{Maybe, Wider, rep-keep, each_keep, rep-look, alike-new, wider-new, alike_same, reals}
 use Rattle.heap.proofs.Laws.Shape.{each_append, args-alike}
-use Rattle.engine.specs.Code.{go}
 use Rattle.engine.specs.Machine.{put, st, Stop, demand, becomes, parts, fails, misfits, broken, full, Step, on, ends, at, need, when, made, own}
 use Rattle.heap.specs.Store.{Store, taken}
 use Rattle.standing.specs.Stands.{World, Rel, Dom, Ours, Reps, Holds}

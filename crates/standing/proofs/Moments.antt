@@ -17,11 +17,11 @@ use Rattle.engine.specs.Compile.{Program, compile}
 use Rattle.engine.specs.Plain as Plain
 use Rattle.engine.specs.Machine as Machine
 use Rattle.engine.specs.Machine.{Held, Kept, held_of}
-use Rattle.engine.specs.Run.{Limits, Next, ends, next, turns_of, nodes_of, result_record, Moment, moment, fits, ◌⊕◌, tally, taken, step}
+use Rattle.engine.specs.Run.{Limits, Next, next, turns_of, nodes_of, result_record, Moment, moment, fits, ◌⊕◌, tally, taken, step}
 use Rattle.agreement.proofs.Calls.{FineBook}
 use Rattle.agreement.proofs.Agree.{Sound, Pools, Same, same-goes, same-splits, same-value, same_ended}
 use Rattle.agreement.proofs.Runs.{same_turn}
-use Rattle.standing.specs.Shared.{StoreNext, store_ends, store_next, Took, went, split, wrote, ended, lost, none_left, made_in, store_turn, StoreMoment, store_moment, store_taken, store_step}
+use Rattle.standing.specs.Shared.{StoreNext, Took, split, wrote, lost, none_left, made_in, store_turn, StoreMoment, store_moment, store_taken, store_step}
 use Rattle.standing.specs.Stands.{Ours, Stands, Pool, empty, join, Short, After, after-goes, after-splits, after-value, after-ended, after-lost, after-full}
 use Rattle.standing.specs.Contract.{shape}
 use Rattle.standing.specs.Moments.{Room, Sounds, shown, shown_next, store_shown, store_shown_next, StandsFor, stands-for, StandsNext, both_end, both_go}

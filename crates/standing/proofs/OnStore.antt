@@ -26,12 +26,12 @@ use Rattle.heap.proofs.Laws.Pour.{Solid}
 use Rattle.engine.specs.Compile.{Program, compile}
 use Rattle.engine.specs.Machine as Machine
 use Rattle.engine.specs.Machine.{Held, Kept, from_start}
-use Rattle.engine.specs.Run.{Limits, Lent, in_range, lent_fits, Answer, Moment, moment, Next, ends, next, opening, fits, step, run_from, ask, closed, checked, machine, plain}
+use Rattle.engine.specs.Run.{Limits, Lent, in_range, lent_fits, Answer, Moment, moment, Next, opening, step, run_from, ask, closed, checked, machine, plain}
 use Rattle.agreement.proofs.Fine.{Takes, FineTerm}
 use Rattle.agreement.proofs.Calls.{FineBook}
 use Rattle.agreement.proofs.Accept.{question-of}
 use Rattle.agreement.proofs.Runs.{start-whole, fine-book, agree}
-use Rattle.standing.specs.Shared.{pour, StoreMoment, store_moment, StoreNext, store_ends, store_next, store_step, store_run_from, store_ask, store_closed, on_store}
+use Rattle.standing.specs.Shared.{pour, StoreMoment, store_moment, StoreNext, store_step, store_run_from, store_ask, store_closed, on_store}
 use Rattle.standing.specs.Stands.{empty, join, Ready}
 use Rattle.standing.specs.Moments.{StandsFor, stands-for, StandsNext, both_end, both_go, StandsEnd, stands-end}
 use Rattle.standing.proofs.Stands.{Poured, pour-stands, pour-none}

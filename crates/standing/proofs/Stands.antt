@@ -24,7 +24,7 @@ use Rattle.heap.proofs.Laws.Shape.{copy-alike}
 use Rattle.heap.proofs.Laws.Pour.{laid-other, laid-length, Solid, At, In, On, poured, poured-rep, poured-reps}
 use Rattle.heap.proofs.Laws.Reach.{map_at}
 use Rattle.heap.proofs.Laws.Copies.{Whole, copy-whole, copy-solid-of}
-use Rattle.engine.specs.Turn.{value, forward, alternatives, sizes}
+use Rattle.engine.specs.Turn.{forward, alternatives, sizes}
 use Rattle.engine.specs.Machine.{Kept, from_start, Held, own}
 use Rattle.heap.specs.Store.{Store, laid}
 use Rattle.standing.specs.Shared.{pour, pour_all}

@@ -13,7 +13,7 @@ use Rattle.standing.specs.Stands.{World, Ours, Stands, Outside, Short, After, af
 use Rattle.book.specs.Syntax.{Symbol, Book}
 use Rattle.heap.specs.Graph.{Graph, var, fwd, node, Comp}
 use Rattle.heap.proofs.Laws.Alike.{rep-keep, each_keep}
-use Rattle.engine.specs.Turn.{value, forward, alternatives, sizes, Turned}
+use Rattle.engine.specs.Turn.{forward, alternatives, sizes, Turned}
 use Rattle.engine.specs.Compile.{Program, compile}
 use Rattle.engine.specs.Machine.{Kept, with_graph, turn_within, turn_on, Stop, demand, becomes, parts, fails, misfits, broken, full, Held, Told, stopped, own, held_of}
 use Rattle.heap.specs.Store.{Store, take1}

@@ -1,4 +1,6 @@
 // The node store on lent bytes: nodes, and a few words for each node. specs/Regions has the map.
+#![tactic(auto)]
+
 ghost use Rattle.std.specs.Prelude.{◌≡◌, ℕ, ◌+◌, ◌*◌, ◌%◌, ◌<◌, ◌≤◌, length, get_or, take};
 ghost use Rattle.mem.specs.Words.{words};
 ghost use Rattle.heap.specs.Graph as g;

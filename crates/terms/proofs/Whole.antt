@@ -7,7 +7,7 @@ use native.Mathlib.Omega.{arith}
 use mathlib.Core.Path.{◌≡◌, refl, sym, ap, ◌∙◌}
 use mathlib.Core.List.{List, [], ◌∷◌, ◌++◌, append-nil, map}
 use lib.ListN.{length, get_or, drop, replicate, length-append}
-use Rattle.book.specs.Syntax.{Tree, Trees, split, rule, norule, stop, child, Func, arity, Book, first_con, cons_of}
+use Rattle.book.specs.Syntax.{Tree, Trees, split, rule, norule, stop, child, Func, Book, first_con, cons_of}
 use Rattle.book.specs.Reading.{under}
 use Rattle.book.specs.Accepted as Q
 use Rattle.engine.specs.Plain.{no_func}

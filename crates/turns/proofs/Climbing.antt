@@ -1,32 +1,30 @@
 -- The stack within a turn climbs: from the settled stack or the first call on, through each call that is demanded.
 -- Here, in order: where it begins; a call that is demanded; its entries; room for the code of the call on its top.
 -- Assumes nothing.
-use Prim.Native.Nat.{ℕ, zero, suc, ◌≤◌, ◌<◌}
+use Prim.Native.Nat.{ℕ, ◌≤◌, ◌<◌}
 use native.Mathlib.Omega.{arith}
 use mathlib.Core.Path.{◌≡◌, refl, sym, ap, ◌∙◌, subst}
 use mathlib.Core.Logic.{◌⊎◌, inl, inr}
 use mathlib.Core.Option.{Option, none, some}
 use mathlib.Core.List.{List, [], ◌∷◌, Memᴰ}
-use lib.ListN.{length, get_or, drop}
-use Rattle.book.specs.Syntax.{Book, Right, Symbol, con, fun}
-use Rattle.book.specs.Accepted as A
+use lib.ListN.{length}
+use Rattle.book.specs.Syntax.{Book, Right, Symbol, fun}
 use Rattle.heap.specs.Alike.{Each, Mirror}
 use Rattle.heap.specs.Place.{Distinct}
-use Rattle.heap.specs.Graph.{Graph, Node, cell, var, fwd, node, look, follow, first_call}
+use Rattle.heap.specs.Graph.{Graph, Node, cell, var, fwd, look, first_call}
 use Rattle.heap.specs.Store.{Store, take1}
 use Rattle.heap.proofs.Laws.Good.{Good}
-use Rattle.heap.proofs.Laws.Forward.{Call}
 use Rattle.heap.proofs.Laws.First.{found}
 use Rattle.heap.proofs.Laws.Bound.{first-bound}
 use Rattle.heap.proofs.Laws.Alike.{Maybe, rep-look}
 use Rattle.heap.proofs.Laws.Shape.{first-same}
 use Rattle.engine.specs.Plain.{Reached, demands, narrows, rewrites, fails, misfits, stuck, walk_call}
-use Rattle.engine.specs.Compile.{Program, compile}
-use Rattle.engine.specs.Machine.{Held, Kept, held_of, State, st, Stop, demand, own, on_top, settle}
+use Rattle.engine.specs.Compile.{compile}
+use Rattle.engine.specs.Machine.{Held, Kept, held_of, Stop, demand, own, on_top, settle}
 use Rattle.agreement.proofs.Fine.{Takes}
 use Rattle.agreement.proofs.Calls.{FineBook, call-runs, known-call}
 use Rattle.agreement.proofs.Trees.{stop_of, rule_stop}
-use Rattle.agreement.proofs.Chain.{Chain, chain-top, call-demands, Settled, settle-chain}
+use Rattle.agreement.proofs.Chain.{chain-top, call-demands, Settled, settle-chain}
 use Rattle.agreement.proofs.Agree.{Sound}
 use Rattle.standing.specs.Stands.{World, Rel, Dom, Ours, Reps, Holds, Stands}
 use Rattle.standing.proofs.Grows.{Stops, stops-demand}

@@ -153,10 +153,10 @@ pools-length book B (c ∷ cs) [] p = absurd p
 pools-length book B (c ∷ cs) (k ∷ ks) p = ap suc (pools-length book B cs ks p.2)
 
 same-few : (book : Book) (B : FineBook book) (x : Turned Comp) (y : Turned m.Kept) → Same book B x y → AtMost x → AtMost y
-same-few book B (goes c n) (goes k n') (same-goes q s) l = tt
-same-few book B (splits cs n) (splits ks n') (same-splits q) l = let e = pools-length book B cs ks q in omega arith
-same-few book B (value b) (value b') same-value l = tt
-same-few book B (ended e) (ended e') same_ended l = tt
+same-few book B _ _ (same-goes q s) l = tt
+same-few book B (splits cs n) _ (same-splits {ks} q) l = let e = pools-length book B cs ks q in omega arith
+same-few book B _ _ same-value l = tt
+same-few book B _ _ same_ended l = tt
 
 -- the machine's turn
 pub machine-few : (book : Book) → A.FineBook book → (B : FineBook book) (k : m.Kept) → Sound book B k.comp k.stack → AtMost (m.turn (compile book) k)

@@ -4,9 +4,7 @@
 use Prim.Native.Nat.{ℕ, zero, suc, ◌+◌, ◌-◌, ◌*◌, ◌≤◌, ◌<◌}
 use native.Mathlib.Omega.{arith}
 use mathlib.Core.Path.{◌≡◌, refl, sym, ap, ◌∙◌, subst}
-use mathlib.Core.Logic.{◌≢◌}
 use mathlib.Core.Bool.{Bool, true, false}
-use mathlib.Core.Option.{Option, none, some}
 use mathlib.Core.List.{List, [], ◌∷◌, ◌++◌, reverse, reverse_aux-eq}
 use lib.ListN.{length, get_or, take, drop, length-drop}
 use lib.Seq.{get_or-set_other, take-suc}
@@ -16,8 +14,7 @@ use Rattle.heap.specs.Graph.{Graph, node, var, fwd}
 use Rattle.heap.specs.Build.{up_from}
 use Rattle.heap.specs.Store.{Store}
 use Rattle.engine.specs.Turn.{forward}
-use Rattle.engine.specs.Machine as m
-use Rattle.standing.specs.Shared.{Took, went, split, none_left, pour_all, finish}
+use Rattle.standing.specs.Shared.{went, pour_all, finish}
 use Rattle.store.specs.Regions.{Memory, graph_of, rest_of, store_of, Did, set_node}
 use Rattle.store.specs.declared.NodeNo.{NodeNo}
 use Rattle.store.proofs.Writes.{length_rest}
@@ -30,10 +27,10 @@ use Rattle.pool.specs.Ring.{held_by, held_in, roots_of}
 use Rattle.alternatives.specs.Copies.{terms_in, alts_in, given_all, AllPoured}
 use Rattle.alternatives.specs.declared.Grown.{Grown}
 use Rattle.turns.specs.Front.{Space, took_of}
-use Rattle.turns.specs.Ends.{Capped, regs_with, Stopped, Hit, Finished}
+use Rattle.turns.specs.Ends.{Capped, regs_with, Finished}
 use Rattle.turns.specs.declared.Turned.{Turned}
 use Rattle.turns.specs.declared.What.{What}
-use Rattle.turns.specs.declared.What.TheVariants.{Went, Split, Wrote, Failed, Misfit, NoneLeft, Lost}
+use Rattle.turns.specs.declared.What.TheVariants.{Went, Split, Failed, Misfit, NoneLeft, Lost}
 use Rattle.turns.proofs.Links.{stack_same, stack-links}
 
 -- all nodes are made, or fewer

@@ -1,16 +1,15 @@
 -- The code of a call of an accepted book's function has room on the pre-term stack, in the machine's own words.
 -- Here, in order: one instruction; at most n of them; the call on a stack's top.
 -- Assumes nothing.
-use Prim.Native.Nat.{ℕ, zero, suc, ◌≤◌, ◌<◌}
-use native.Mathlib.Omega.{arith}
+use Prim.Native.Nat.{ℕ, zero, suc, ◌≤◌}
 use lib.Dec.{lit≤}
-use mathlib.Core.Path.{◌≡◌, refl, sym, ap, ◌∙◌, subst}
+use mathlib.Core.Path.{◌≡◌, refl, subst}
 use mathlib.Core.Option.{none}
-use mathlib.Core.List.{List, [], ◌∷◌}
+use mathlib.Core.List.{List, []}
 use lib.ListN.{length, get_or, drop}
-use Rattle.book.specs.Syntax.{Book, fun}
+use Rattle.book.specs.Syntax.{Book}
 use Rattle.book.specs.Accepted as A
-use Rattle.heap.specs.Graph.{Graph, cell, look}
+use Rattle.heap.specs.Graph.{Graph}
 use Rattle.heap.specs.Store.{Store, take1}
 use Rattle.heap.proofs.Laws.Good.{Good}
 use Rattle.engine.specs.Compile.{Program, compile}

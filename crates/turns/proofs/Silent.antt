@@ -10,7 +10,6 @@ use Rattle.engine.specs.Machine as m
 use Rattle.standing.specs.Shared.{split, wrote, none_left, finish, pour_all}
 use Rattle.machine.specs.declared.Stop.{Stop}
 use Rattle.pool.specs.declared.Held.{Held}
-use Rattle.turns.specs.declared.What.{What}
 use Rattle.turns.specs.declared.What.TheVariants.{Wrote}
 use Rattle.turns.specs.declared.Turned.{Turned}
 use Rattle.turns.specs.Front.{took_of}

@@ -2,7 +2,7 @@
 -- Here, in order: how many nodes are made, as far as there are so many; what the step relies on; what it writes; what it does.
 -- Not here: the copies for alternatives (crate alternatives), the turn (Front).
 -- Assumes nothing.
-use Rattle.std.specs.Prelude.{ℕ, ◌+◌, ◌≤◌, ◌<◌, false, ◌≡◌, ◌≢◌, List, length, get_or, take}
+use Rattle.std.specs.Prelude.{ℕ, ◌+◌, ◌≤◌, ◌<◌, false, ◌≡◌, ◌≢◌, List, length, take}
 use Rattle.mem.specs.Words.{words}
 use Rattle.heap.specs.Graph.{node}
 use Rattle.standing.specs.Shared.{finish}

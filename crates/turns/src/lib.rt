@@ -1,6 +1,8 @@
 // One turn of the machine on the store: the front computation settles its stack, finds a call where that is empty, runs code until
 // one step of the plain section is done, and does that step. specs/Front says what it is given and what it gives.
 // Here: the answers and the turn. calls: where a turn begins, and the calls that are walked; ends: the step that ends it.
+#![tactic(auto)]
+
 pub mod calls;
 pub mod ends;
 

@@ -32,15 +32,15 @@ pub record Read (g : Graph) (k : ℕ) : Type 0 where
   pub handle : Handle g own all k
 
 -- each frame is of a node that a handle of H leads to, and there is room above it for all that can come
-unfoldable pub Stood : Graph → (ℕ → Type 0) → (ℕ → ℕ) → List Frame → Type 0
-Stood g H rank [] = Unit {0}
-Stood g H rank (f ∷ fs) = ((h : ℕ) × H h × (f.node ≡ follow g h) × (rank h + suc (length fs) ≤ length g)) × Stood g H rank fs
+unfoldable pub IsStood : Graph → (ℕ → Type 0) → (ℕ → ℕ) → List Frame → Type 0
+IsStood g H rank [] = Unit {0}
+IsStood g H rank (f ∷ fs) = ((h : ℕ) × H h × (f.node ≡ follow g h) × (rank h + suc (length fs) ≤ length g)) × IsStood g H rank fs
 
 pub record Stood (g : Graph) (fs : List Frame) : Type 0 where
   pub own : List ℕ
   pub all : List ℕ
   pub part : Part g own all
-  pub high : Stood g (Handle g own all) part.rank fs
+  pub high : IsStood g (Handle g own all) part.rank fs
 
 -- what is met at a node, and the frames then
 unfoldable pub visit_node : Node → ℕ → List Frame → Met × List Frame

@@ -13,7 +13,7 @@ use store::NodeNo;
 // The bytes that the frames owe are added to the sum, until it passes the room.
 fn tally(s: &mut [u8], limit: usize, depth: usize, sum: usize, room: usize) -> usize
     requires room { Room limit s.old }
-    requires Stood { Stood (graph_of limit s.old) (stack depth (frames_of limit s.old)) }
+    requires stood { Stood (graph_of limit s.old) (stack depth (frames_of limit s.old)) }
     requires room_bound { (room ≤ 65536) × (sum ≤ room + 3) }
     ensures { Counted room (sum + dues limit (graph_of limit s.old) (stack depth (frames_of limit s.old))) result × Framed limit s.old s.new }
 {

@@ -1,12 +1,7 @@
 use Rattle.alternatives.proofs.Laws.{fill-take, fill-all}
 use native.Mathlib.Omega.{arith}
 use borrow.Author.Rules.{rules}
-use Prim.Native.Nat.{◌≤◌, ◌-◌}
-use mathlib.Core.Path.{◌≡◌, refl, ap, sym, ◌∙◌}
-use lib.ListN.{length, take}
-use lib.Seq.{take_all}
-use Rattle.heap.specs.Graph.{node, args}
-use Rattle.store.specs.Regions.{graph_of}
+use mathlib.Core.Path.{◌≡◌, refl}
 use Rattle.alternatives.proofs.args_of.Goals as goal
 
 pub loop-j-init : goal.loop-j-init

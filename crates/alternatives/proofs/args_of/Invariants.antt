@@ -1,10 +1,6 @@
-use Rattle.alternatives.proofs.Laws.{fill-take, fill-all}
-use native.Mathlib.Omega.{arith}
-use borrow.Author.Rules.{rules}
 use Prim.Native.Nat.{◌≤◌, ◌-◌}
-use mathlib.Core.Path.{◌≡◌, refl, ap, sym, ◌∙◌}
+use mathlib.Core.Path.{◌≡◌}
 use lib.ListN.{length, take}
-use lib.Seq.{take_all}
 use Rattle.heap.specs.Graph.{node, args}
 use Rattle.store.specs.Regions.{graph_of}
 use Rattle.alternatives.proofs.args_of.Given as goal

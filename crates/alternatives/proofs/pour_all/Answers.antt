@@ -1,9 +1,7 @@
 use native.Mathlib.Omega.{arith}
 use borrow.Author.Rules.{rules}
-use Prim.Native.Nat.{◌≤◌, ◌-◌}
-use mathlib.Core.Path.{◌≡◌, refl, ap, sym, ◌∙◌}
-use lib.ListN.{length}
-use Rattle.alternatives.proofs.Rounds.{Rounds, rounds-start, rounds-opens, rounds-next, rounds-full, rounds-done, refused, passed}
+use mathlib.Core.Path.{◌≡◌, refl}
+use Rattle.alternatives.proofs.Rounds.{rounds-start, rounds-opens, rounds-next, rounds-full, rounds-done, refused, passed}
 use Rattle.alternatives.proofs.pour_all.Goals as goal
 
 pub loop-i-init : goal.loop-i-init

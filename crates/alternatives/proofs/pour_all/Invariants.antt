@@ -1,9 +1,7 @@
-use native.Mathlib.Omega.{arith}
-use borrow.Author.Rules.{rules}
 use Prim.Native.Nat.{◌≤◌, ◌-◌}
-use mathlib.Core.Path.{◌≡◌, refl, ap, sym, ◌∙◌}
+use mathlib.Core.Path.{◌≡◌}
 use lib.ListN.{length}
-use Rattle.alternatives.proofs.Rounds.{Rounds, rounds-start, rounds-opens, rounds-next, rounds-full, rounds-done, refused, passed}
+use Rattle.alternatives.proofs.Rounds.{Rounds}
 use Rattle.alternatives.proofs.pour_all.Given as goal
 
 abbrev pub invariant-loop-i : goal.invariant-loop-i

@@ -1,8 +1,7 @@
 use native.Mathlib.Omega.{arith}
-use mathlib.Core.Path.{◌≡◌, ap, sym, ◌∙◌}
+use mathlib.Core.Path.{ap, ◌∙◌}
 use Rattle.store.specs.Regions.{Memory}
 use Rattle.alternatives.proofs.Steps.{opens-walk, one-poured}
-use borrow.Author.Rules.{rules}
 use Rattle.alternatives.proofs.pour_one.Goals as goal
 
 pub pour_copy-p-requires : goal.pour_copy-p-requires

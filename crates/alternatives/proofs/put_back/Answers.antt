@@ -1,11 +1,7 @@
 use Rattle.alternatives.proofs.Laws.{back-var, back-con, back-call, back-fwd}
 use Prim.Native.Nat.{◌≤◌}
-use mathlib.Core.Path.{ap, subst}
-use Rattle.heap.specs.Graph.{Node}
-use Rattle.store.specs.Regions.{Did, set_node}
-use Rattle.store.specs.Rows.{symbol_of}
-use Rattle.alternatives.specs.Copies.{count_in, node_with, node_is}
-use borrow.Author.Rules.{rules}
+use mathlib.Core.Path.{subst}
+use Rattle.alternatives.specs.Copies.{count_in}
 use Rattle.alternatives.proofs.put_back.Goals as goal
 
 pub put_cell-requires : goal.put_cell-requires

@@ -1,10 +1,7 @@
 use Rattle.alternatives.proofs.Laws.{args-few, count-is, saved-as}
 use native.Mathlib.Omega.{arith}
-use mathlib.Core.Path.{◌≡◌, ap, sym, ◌∙◌, subst}
-use Prim.Native.Nat.{◌≤◌}
-use lib.ListN.{take}
-use Rattle.alternatives.specs.Copies.{node_is, count_in}
-use borrow.Author.Rules.{rules}
+use mathlib.Core.Path.{◌∙◌}
+use Rattle.alternatives.specs.Copies.{node_is}
 use Rattle.alternatives.proofs.save.Goals as goal
 
 pub args_of-args-requires : goal.args_of-args-requires

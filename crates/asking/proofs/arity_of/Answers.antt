@@ -1,5 +1,4 @@
 use Rattle.asking.proofs.Terms.{arity-is-con, arity-is-fun}
-use borrow.Author.Rules.{rules}
 use Rattle.asking.proofs.arity_of.Goals as goal
 
 pub returns-then-kind-eq7 : goal.returns-then-kind-eq7

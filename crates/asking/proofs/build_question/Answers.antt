@@ -2,7 +2,6 @@ use native.Mathlib.Omega.{arith}
 use mathlib.Core.Path.{ap, ◌∙◌}
 use Prim.Native.Nat.{suc}
 use Rattle.asking.proofs.Answers.{asked-full, asked-made, asked-still, asked-size}
-use borrow.Author.Rules.{rules}
 use Rattle.asking.proofs.build_question.Goals as goal
 
 pub bounds-q-1 : goal.bounds-q-1

@@ -1,7 +1,4 @@
 use native.Mathlib.Omega.{arith}
-use mathlib.Core.Path.{◌≡◌}
-use Prim.Native.Nat.{◌+◌, ◌-◌, ◌*◌, ◌≤◌}
-use Rattle.asking.specs.Question.{cells}
 use Rattle.asking.proofs.Terms.{count-start, count-more, count_same, count-end}
 use Rattle.asking.proofs.count_cells.Goals as goal
 

@@ -1,8 +1,6 @@
-use native.Mathlib.Omega.{arith}
 use mathlib.Core.Path.{◌≡◌}
 use Prim.Native.Nat.{◌+◌, ◌-◌, ◌*◌, ◌≤◌}
 use Rattle.asking.specs.Question.{cells}
-use Rattle.asking.proofs.Terms.{count-start, count-more, count_same, count-end}
 use Rattle.asking.proofs.count_cells.Given as goal
 
 abbrev pub invariant-loop-left : goal.invariant-loop-left

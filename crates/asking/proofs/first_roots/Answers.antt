@@ -1,9 +1,6 @@
 use native.Mathlib.Omega.{arith}
 use mathlib.Core.Path.{◌≡◌, refl}
-use Prim.Native.Nat.{◌+◌, ◌-◌, ◌≤◌}
-use mathlib.Core.List.{◌∷◌}
-use lib.ListN.{length, take, length-set}
-use Rattle.heap.specs.Build.{up_from}
+use lib.ListN.{length-set}
 use Rattle.asking.proofs.Pours.{first-none, first_step, first-all}
 use Rattle.asking.proofs.first_roots.Goals as goal
 

@@ -1,10 +1,8 @@
-use native.Mathlib.Omega.{arith}
-use mathlib.Core.Path.{◌≡◌, refl}
+use mathlib.Core.Path.{◌≡◌}
 use Prim.Native.Nat.{◌+◌, ◌-◌, ◌≤◌}
 use mathlib.Core.List.{◌∷◌}
-use lib.ListN.{length, take, length-set}
+use lib.ListN.{length, take}
 use Rattle.heap.specs.Build.{up_from}
-use Rattle.asking.proofs.Pours.{first-none, first_step, first-all}
 use Rattle.asking.proofs.first_roots.Given as goal
 
 abbrev pub invariant-loop-j : goal.invariant-loop-j

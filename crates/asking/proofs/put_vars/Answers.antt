@@ -1,9 +1,5 @@
 use native.Mathlib.Omega.{arith}
 use mathlib.Core.Path.{◌≡◌, refl, ◌∙◌}
-use Prim.Native.Nat.{◌-◌, ◌≤◌}
-use lib.ListN.{length}
-use Rattle.mem.specs.Words.{words}
-use Rattle.asking.specs.Question.{VarsPut}
 use Rattle.asking.proofs.Terms.{vars-none, vars-step}
 use Rattle.asking.proofs.put_vars.Goals as goal
 
@@ -23,7 +19,7 @@ pub loop-i-smaller : goal.loop-i-smaller
 loop-i-smaller c = omega arith
 
 pub loop-i-preserved : goal.loop-i-preserved
-loop-i-preserved c = let i = c.loop-i.invariant in let p = c.put_var in (vars-step _ _ _ _ _ (omega arith) i.0 p.ensures, p.auto.0 ∙ i.1, p.ensures.long ∙ i.2, omega arith)
+loop-i-preserved c = let i = c.loop-i.invariant in let p = c.put_var in (vars-step _ _ _ _ _ (omega arith) i.0 p.ensures, p.auto.s ∙ i.1, p.ensures.long ∙ i.2, omega arith)
 
 pub shape_of-s : goal.shape_of-s
 shape_of-s c = c.loop-i.invariant.1

@@ -1,10 +1,8 @@
-use native.Mathlib.Omega.{arith}
-use mathlib.Core.Path.{◌≡◌, refl, ◌∙◌}
+use mathlib.Core.Path.{◌≡◌}
 use Prim.Native.Nat.{◌-◌, ◌≤◌}
 use lib.ListN.{length}
 use Rattle.mem.specs.Words.{words}
 use Rattle.asking.specs.Question.{VarsPut}
-use Rattle.asking.proofs.Terms.{vars-none, vars-step}
 use Rattle.asking.proofs.put_vars.Given as goal
 
 abbrev pub invariant-loop-i : goal.invariant-loop-i

@@ -1,8 +1,6 @@
 use native.Mathlib.Omega.{arith}
 use mathlib.Core.Path.{◌≡◌, refl}
-use Prim.Native.Nat.{◌-◌, ◌≤◌}
-use lib.ListN.{length, take, length-set}
-use Rattle.asking.specs.Question.{pre_terms}
+use lib.ListN.{length-set}
 use Rattle.asking.proofs.Terms.{taken_step}
 use Rattle.asking.proofs.take_terms.Goals as goal
 

@@ -1,9 +1,7 @@
-use native.Mathlib.Omega.{arith}
-use mathlib.Core.Path.{◌≡◌, refl}
+use mathlib.Core.Path.{◌≡◌}
 use Prim.Native.Nat.{◌-◌, ◌≤◌}
-use lib.ListN.{length, take, length-set}
+use lib.ListN.{length, take}
 use Rattle.asking.specs.Question.{pre_terms}
-use Rattle.asking.proofs.Terms.{taken_step}
 use Rattle.asking.proofs.take_terms.Given as goal
 
 abbrev pub invariant-loop-j : goal.invariant-loop-j

@@ -1,10 +1,8 @@
 use native.Mathlib.Omega.{arith}
-use mathlib.Core.Path.{◌≡◌, refl, ◌∙◌}
-use Prim.Native.Nat.{◌+◌, ◌-◌, ◌*◌, ◌≤◌, ◌<◌}
-use lib.ListN.{length, get_or}
-use Rattle.asking.specs.Question.{AskedOf}
-use Rattle.asking.proofs.Records.{cons_in, funcs_in}
-use Rattle.asking.proofs.Walks.{WalkedTo, walk_begins, can-walk, walk-goes, walk_ends}
+use mathlib.Core.Path.{refl, ◌∙◌}
+use Prim.Native.Nat.{◌+◌, ◌-◌, ◌*◌, ◌<◌}
+use lib.ListN.{get_or}
+use Rattle.asking.proofs.Walks.{walk_begins, can-walk, walk-goes, walk_ends}
 use Rattle.asking.proofs.walk_back.Goals as goal
 
 pub loop-left-init : goal.loop-left-init

@@ -1,10 +1,9 @@
-use native.Mathlib.Omega.{arith}
-use mathlib.Core.Path.{◌≡◌, refl, ◌∙◌}
-use Prim.Native.Nat.{◌+◌, ◌-◌, ◌*◌, ◌≤◌, ◌<◌}
-use lib.ListN.{length, get_or}
+use mathlib.Core.Path.{◌≡◌}
+use Prim.Native.Nat.{◌+◌, ◌-◌, ◌*◌, ◌≤◌}
+use lib.ListN.{length}
 use Rattle.asking.specs.Question.{AskedOf}
 use Rattle.asking.proofs.Records.{cons_in, funcs_in}
-use Rattle.asking.proofs.Walks.{WalkedTo, walk_begins, can-walk, walk-goes, walk_ends}
+use Rattle.asking.proofs.Walks.{WalkedTo}
 use Rattle.asking.proofs.walk_back.Given as goal
 
 abbrev pub invariant-loop-left : goal.invariant-loop-left

@@ -1,4 +1,3 @@
-use borrow.Author.Rules.{rules}
 use mathlib.Core.Path.{ap}
 use Rattle.store.proofs.Laws.{count_of}
 use Rattle.copier.proofs.Steps.{arity-known}

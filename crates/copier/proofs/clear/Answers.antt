@@ -1,11 +1,8 @@
 use native.Mathlib.Omega.{arith}
 use Rattle.copier.proofs.Listing.{length_seen}
 use Rattle.store.proofs.Writes.{length-list}
-use Prim.Native.Nat.{◌≤◌, ◌-◌}
-use mathlib.Core.Path.{◌≡◌, refl, ◌∙◌}
-use lib.ListN.{length}
-use Rattle.copier.specs.Listed.{seen_in}
-use Rattle.copier.proofs.Steps.{Clears, clears-none, clears-below, clears-step, clears-end}
+use mathlib.Core.Path.{refl, ◌∙◌}
+use Rattle.copier.proofs.Steps.{clears-none, clears-below, clears-step, clears-end}
 use Rattle.copier.proofs.clear.Goals as goal
 
 pub loop-i-init : goal.loop-i-init

@@ -1,11 +1,8 @@
-use native.Mathlib.Omega.{arith}
-use Rattle.copier.proofs.Listing.{length_seen}
-use Rattle.store.proofs.Writes.{length-list}
 use Prim.Native.Nat.{◌≤◌, ◌-◌}
-use mathlib.Core.Path.{◌≡◌, refl, ◌∙◌}
+use mathlib.Core.Path.{◌≡◌}
 use lib.ListN.{length}
 use Rattle.copier.specs.Listed.{seen_in}
-use Rattle.copier.proofs.Steps.{Clears, clears-none, clears-below, clears-step, clears-end}
+use Rattle.copier.proofs.Steps.{Clears}
 use Rattle.copier.proofs.clear.Given as goal
 
 abbrev pub invariant-loop-i : goal.invariant-loop-i

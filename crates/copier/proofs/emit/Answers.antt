@@ -2,7 +2,6 @@ use mathlib.Core.Path.{sym, ◌∙◌}
 use Rattle.store.proofs.Laws.{seen-con, seen-call}
 use Rattle.copier.proofs.Steps.{did-as, emit-con, emit-call, emit-var, emit-fwd}
 use Rattle.copier.proofs.Copying.{copies_as}
-use borrow.Author.Rules.{rules}
 use Rattle.copier.proofs.emit.Goals as goal
 
 pub put_copy-requires : goal.put_copy-requires

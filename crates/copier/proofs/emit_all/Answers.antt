@@ -1,9 +1,6 @@
-use Prim.Native.Nat.{◌≤◌, ◌-◌}
-use mathlib.Core.Path.{◌≡◌, refl, ◌∙◌}
-use lib.ListN.{length}
-use Rattle.copier.specs.Listed.{seen_in}
+use mathlib.Core.Path.{refl, ◌∙◌}
 use Rattle.copier.proofs.Listing.{length_seen}
-use Rattle.copier.proofs.Emits.{Emits, emits_none, emits-step, emits-end, emit-copies}
+use Rattle.copier.proofs.Emits.{emits_none, emits-step, emits-end, emit-copies}
 use native.Mathlib.Omega.{arith}
 use Rattle.copier.proofs.emit_all.Goals as goal
 

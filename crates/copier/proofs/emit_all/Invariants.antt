@@ -1,10 +1,8 @@
 use Prim.Native.Nat.{◌≤◌, ◌-◌}
-use mathlib.Core.Path.{◌≡◌, refl, ◌∙◌}
+use mathlib.Core.Path.{◌≡◌}
 use lib.ListN.{length}
 use Rattle.copier.specs.Listed.{seen_in}
-use Rattle.copier.proofs.Listing.{length_seen}
-use Rattle.copier.proofs.Emits.{Emits, emits_none, emits-step, emits-end, emit-copies}
-use native.Mathlib.Omega.{arith}
+use Rattle.copier.proofs.Emits.{Emits}
 use Rattle.copier.proofs.emit_all.Given as goal
 
 abbrev pub invariant-loop-i : goal.invariant-loop-i

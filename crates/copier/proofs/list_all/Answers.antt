@@ -1,5 +1,4 @@
 use Rattle.copier.proofs.Listing.{listed-none, reached, reach-solid}
-use borrow.Author.Rules.{rules}
 use native.Mathlib.Omega.{arith}
 use Rattle.copier.proofs.list_all.Goals as goal
 

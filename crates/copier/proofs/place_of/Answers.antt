@@ -1,7 +1,6 @@
 use Rattle.store.specs.Regions.{places_of}
 use lib.ListN.{get_or}
 use mathlib.Core.Path.{refl}
-use borrow.Author.Rules.{rules}
 use native.Mathlib.Omega.{arith}
 use Rattle.copier.proofs.Steps.{spot-word, spot-placed}
 use Rattle.copier.proofs.place_of.Goals as goal

@@ -4,8 +4,8 @@ use Rattle.copier.specs.Poured.{placed}
 use mathlib.Core.List.Memᴰ
 use mathlib.Core.List.{map}
 use mathlib.Core.Path.{◌≡◌, refl, subst}
-use Prim.Native.Nat.{ℕ, ◌≤◌, ◌-◌}
-use lib.ListN.{length, take, length-set}
+use Prim.Native.Nat.{ℕ}
+use lib.ListN.{take, length-set}
 use Rattle.copier.proofs.Steps.{fill-map, front-mem}
 use Rattle.copier.proofs.places_of.Goals as goal
 

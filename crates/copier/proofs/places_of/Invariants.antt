@@ -1,12 +1,8 @@
-use borrow.Author.Rules.{rules}
-use native.Mathlib.Omega.{arith}
 use Rattle.copier.specs.Poured.{placed}
-use mathlib.Core.List.Memᴰ
 use mathlib.Core.List.{map}
-use mathlib.Core.Path.{◌≡◌, refl, subst}
-use Prim.Native.Nat.{ℕ, ◌≤◌, ◌-◌}
-use lib.ListN.{length, take, length-set}
-use Rattle.copier.proofs.Steps.{fill-map, front-mem}
+use mathlib.Core.Path.{◌≡◌}
+use Prim.Native.Nat.{◌≤◌, ◌-◌}
+use lib.ListN.{length, take}
 use Rattle.copier.proofs.places_of.Given as goal
 
 abbrev pub invariant-loop-j : goal.invariant-loop-j

@@ -1,9 +1,6 @@
 use native.Mathlib.Omega.{arith}
-use Prim.Native.Nat.{◌≤◌, ◌-◌, ◌*◌}
-use mathlib.Core.Path.{◌≡◌, refl, ◌∙◌}
-use lib.ListN.{length}
-use Rattle.mem.specs.Words.{words}
-use Rattle.copier.proofs.Copying.{Copying, copies-short, copying-start, copying-arg, copying-spot, copying-room, copying-step, copying-end}
+use mathlib.Core.Path.{refl, ◌∙◌}
+use Rattle.copier.proofs.Copying.{copies-short, copying-start, copying-arg, copying-spot, copying-room, copying-step, copying-end}
 use Rattle.copier.proofs.put_copy.Goals as goal
 
 pub put_head-requires : goal.put_head-requires
@@ -36,7 +33,7 @@ loop-j-preserved c = let i = c.loop-j.invariant in
     let q = c.put_arg in
     let k = q.ensures.long in
     let r = i.3 in
-    (copying-step _ _ _ _ _ _ _ _ i.0 c.loop-j-test.true _ _ _ c.arg-h.ensures c.place_of-v.ensures q.ensures, omega arith, q.auto.0 ∙ i.2, omega arith)
+    (copying-step _ _ _ _ _ _ _ _ i.0 c.loop-j-test.true _ _ _ c.arg-h.ensures c.place_of-v.ensures q.ensures, omega arith, q.auto.s ∙ i.2, omega arith)
 
 pub shape_of-s : goal.shape_of-s
 shape_of-s c = c.loop-j.invariant.2 ∙ c.put_head.auto.s

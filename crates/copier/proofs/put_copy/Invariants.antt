@@ -1,9 +1,8 @@
-use native.Mathlib.Omega.{arith}
 use Prim.Native.Nat.{◌≤◌, ◌-◌, ◌*◌}
-use mathlib.Core.Path.{◌≡◌, refl, ◌∙◌}
+use mathlib.Core.Path.{◌≡◌}
 use lib.ListN.{length}
 use Rattle.mem.specs.Words.{words}
-use Rattle.copier.proofs.Copying.{Copying, copies-short, copying-start, copying-arg, copying-spot, copying-room, copying-step, copying-end}
+use Rattle.copier.proofs.Copying.{Copying}
 use Rattle.copier.proofs.put_copy.Given as goal
 
 abbrev pub invariant-loop-j : goal.invariant-loop-j

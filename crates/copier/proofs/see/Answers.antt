@@ -1,6 +1,5 @@
 use native.Mathlib.Omega.{arith}
 use Rattle.copier.proofs.Listing.{see-old, see-room, see-new}
-use borrow.Author.Rules.{rules}
 use Rattle.copier.proofs.see.Goals as goal
 
 pub returns-then-p-gt0 : goal.returns-then-p-gt0

@@ -1,13 +1,9 @@
 use borrow.Author.Rules.{rules}
 use native.Mathlib.Omega.{arith}
-use Rattle.copier.specs.Listed.{seen_in}
 use lib.Seq.{length-take-le}
-use Prim.Native.Nat.{◌≤◌, ◌-◌}
-use mathlib.Core.Path.{◌≡◌, refl, ◌∙◌}
-use lib.ListN.{length, take, drop}
-use Rattle.heap.specs.Graph.{sight}
-use Rattle.store.specs.Regions.{graph_of}
-use Rattle.copier.proofs.Listing.{Owes, owes-sight-end, kept_refl}
+use mathlib.Core.Path.{refl, ◌∙◌}
+use lib.ListN.{take}
+use Rattle.copier.proofs.Listing.{owes-sight-end, kept_refl}
 use Rattle.copier.proofs.Steps.{owes-next, owes-follow}
 use Rattle.copier.proofs.see_all.Goals as goal
 

@@ -1,10 +1,5 @@
-use Prim.Native.Nat.{◌≤◌, ◌-◌}
-use mathlib.Core.Path.{◌≡◌, refl, ◌∙◌}
-use lib.ListN.{length}
-use Rattle.heap.specs.Graph.{sweep}
-use Rattle.store.specs.Regions.{graph_of}
-use Rattle.copier.specs.Listed.{seen_in}
-use Rattle.copier.proofs.Listing.{Owes, owes-sweep, owes-sweep-end, owes-ends}
+use mathlib.Core.Path.{refl, ◌∙◌}
+use Rattle.copier.proofs.Listing.{owes-sweep, owes-sweep-end, owes-ends}
 use Rattle.copier.proofs.Steps.{owes-start}
 use native.Mathlib.Omega.{arith}
 use Rattle.copier.proofs.see_below.Goals as goal

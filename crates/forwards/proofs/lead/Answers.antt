@@ -1,6 +1,5 @@
 use mathlib.Core.Path.{sym, ◌∙◌}
 use Rattle.forwards.proofs.Cases.{led-past, led-call, led-con, led-var, led-fwd}
-use borrow.Author.Rules.{rules}
 use Rattle.forwards.proofs.lead.Goals as goal
 
 pub returns-then-e-limit : goal.returns-then-e-limit

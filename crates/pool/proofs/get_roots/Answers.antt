@@ -1,8 +1,6 @@
 use native.Mathlib.Omega.{arith}
 use mathlib.Core.Path.{◌≡◌, refl}
-use Prim.Native.Nat.{◌-◌, ◌≤◌}
-use lib.ListN.{length, take, length-set}
-use Rattle.pool.specs.Ring.{roots_at}
+use lib.ListN.{length-set}
 use Rattle.pool.proofs.Laws.{roots-none, got-step, got-all}
 use Rattle.pool.proofs.get_roots.Goals as goal
 

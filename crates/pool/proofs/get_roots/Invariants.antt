@@ -1,9 +1,7 @@
-use native.Mathlib.Omega.{arith}
-use mathlib.Core.Path.{◌≡◌, refl}
+use mathlib.Core.Path.{◌≡◌}
 use Prim.Native.Nat.{◌-◌, ◌≤◌}
-use lib.ListN.{length, take, length-set}
+use lib.ListN.{length, take}
 use Rattle.pool.specs.Ring.{roots_at}
-use Rattle.pool.proofs.Laws.{roots-none, got-step, got-all}
 use Rattle.pool.proofs.get_roots.Given as goal
 
 abbrev pub invariant-loop-j : goal.invariant-loop-j

@@ -1,5 +1,4 @@
 use Rattle.pool.proofs.Laws.{row-got}
-use borrow.Author.Rules.{rules}
 use Rattle.pool.proofs.get_row.Goals as goal
 
 pub returns : goal.returns

@@ -1,6 +1,5 @@
 use mathlib.Core.Path.{sym}
 use Rattle.pool.proofs.Rings.{place-straight, place-round}
-use borrow.Author.Rules.{rules}
 use Rattle.pool.proofs.place_of.Goals as goal
 
 pub returns-then-at-places : goal.returns-then-at-places

@@ -1,6 +1,5 @@
 use native.Mathlib.Omega.{arith}
 use Rattle.pool.proofs.Rings.{place_inside, pushed}
-use borrow.Author.Rules.{rules}
 use Rattle.pool.proofs.push.Goals as goal
 
 pub put_row-requires : goal.put_row-requires

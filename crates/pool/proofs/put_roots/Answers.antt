@@ -1,10 +1,6 @@
 use borrow.Author.Rules.{rules}
 use native.Mathlib.Omega.{arith}
 use mathlib.Core.Path.{◌≡◌, refl, sym, ◌∙◌}
-use Prim.Native.Nat.{◌+◌, ◌-◌, ◌≤◌}
-use lib.ListN.{length, take}
-use Rattle.mem.specs.Words.{words}
-use Rattle.pool.specs.Ring.{roots_at, RestOnly}
 use Rattle.pool.proofs.Laws.{only_none, only-word, both-only, roots-none, put_step, put_all}
 use Rattle.pool.proofs.put_roots.Goals as goal
 
@@ -32,7 +28,7 @@ loop-j-smaller c = omega arith
 pub loop-j-preserved : goal.loop-j-preserved
 loop-j-preserved c = let i = c.loop-j.invariant in
     let p = c.put_rest in
-    (put_step _ _ _ _ _ _ _ i.5 (omega arith) (omega arith) i.0 p.ensures refl, both-only i.1 (only-word p.ensures (omega arith) (omega arith)), p.auto.0 ∙ i.2, p.ensures.long ∙ i.3, omega arith, i.5)
+    (put_step _ _ _ _ _ _ _ i.5 (omega arith) (omega arith) i.0 p.ensures refl, both-only i.1 (only-word p.ensures (omega arith) (omega arith)), p.auto.s ∙ i.2, p.ensures.long ∙ i.3, omega arith, i.5)
 
 pub shape_of-s : goal.shape_of-s
 shape_of-s c = c.loop-j.invariant.2

@@ -1,11 +1,8 @@
-use borrow.Author.Rules.{rules}
-use native.Mathlib.Omega.{arith}
-use mathlib.Core.Path.{◌≡◌, refl, sym, ◌∙◌}
+use mathlib.Core.Path.{◌≡◌}
 use Prim.Native.Nat.{◌+◌, ◌-◌, ◌≤◌}
 use lib.ListN.{length, take}
 use Rattle.mem.specs.Words.{words}
 use Rattle.pool.specs.Ring.{roots_at, RestOnly}
-use Rattle.pool.proofs.Laws.{only_none, only-word, both-only, roots-none, put_step, put_all}
 use Rattle.pool.proofs.put_roots.Given as goal
 
 abbrev pub invariant-loop-j : goal.invariant-loop-j

@@ -1,5 +1,4 @@
 use Rattle.pool.proofs.Laws.{row_put}
-use borrow.Author.Rules.{rules}
 use Rattle.pool.proofs.put_row.Goals as goal
 
 pub returns : goal.returns

@@ -2,7 +2,6 @@
 -- Assumes nothing.
 use mathlib.Core.Path.{ap, sym, ◌∙◌}
 use Rattle.store.proofs.Laws.{count_of, count-seen}
-use borrow.Author.Rules.{rules}
 use Rattle.seek.proofs.arguments.Goals as goal
 
 pub returns-in-Var : goal.returns-in-Var

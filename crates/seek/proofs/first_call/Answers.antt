@@ -1,6 +1,5 @@
 -- The first call, by what the root leads to.
 -- Assumes nothing.
-use borrow.Author.Rules.{rules}
 use Rattle.seek.specs.Walkable.{found_of}
 use Rattle.seek.proofs.Meets.{met-quiet-of, met-cell-of, met-call-of}
 use Rattle.seek.proofs.Ends.{root-walk, sought-none, quiet_none, call-some}

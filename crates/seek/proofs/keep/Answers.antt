@@ -1,7 +1,6 @@
 -- The root's mark and its link, one behind the other.
 -- Assumes nothing.
 use Rattle.store.proofs.Writes.{did_then}
-use borrow.Author.Rules.{rules}
 use Rattle.seek.proofs.keep.Goals as goal
 
 pub returns : goal.returns

@@ -3,7 +3,6 @@
 use mathlib.Core.Path.{sym, ◌∙◌}
 use Rattle.seek.proofs.Walkables.{walkable-below}
 use Rattle.seek.proofs.Meets.{met-var, met-finished, met-cell, met-call, met-fwd}
-use borrow.Author.Rules.{rules}
 use Rattle.seek.proofs.meet.Goals as goal
 
 pub look-k-requires : goal.look-k-requires

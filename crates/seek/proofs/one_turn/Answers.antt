@@ -2,7 +2,6 @@
 -- Assumes nothing.
 use native.Mathlib.Omega.{arith}
 use mathlib.Core.Logic.{inl, inr}
-use borrow.Author.Rules.{rules}
 use Rattle.seek.proofs.Meets.{turn-call, turn_in, turn_up, turn-done, turn-down}
 use Rattle.seek.proofs.one_turn.Goals as goal
 

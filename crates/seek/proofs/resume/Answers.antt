@@ -1,7 +1,6 @@
 -- The search from a root that leads to a constructor: the path's top, the walk, and the place kept where it found a call.
 -- Assumes nothing.
 use native.Mathlib.Omega.{arith}
-use borrow.Author.Rules.{rules}
 use Rattle.seek.proofs.Ends.{root_in, root-linked, start-walks, sought-nothing, sought-call}
 use Rattle.seek.proofs.resume.Goals as goal
 

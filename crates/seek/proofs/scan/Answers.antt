@@ -1,13 +1,8 @@
 -- The arguments one by one. The loop keeps that those passed are quiet.
 -- Assumes nothing.
-use Prim.Native.Nat.{ℕ, ◌≤◌, ◌<◌, ◌-◌}
 use native.Mathlib.Omega.{arith}
-use lib.ListN.{get_or}
-use Rattle.heap.specs.Graph.{node, args}
-use Rattle.store.specs.Regions.{graph_of, marks_of}
-use Rattle.seek.specs.Search.{IsQuiet}
 use Rattle.seek.proofs.Meets.{scan-ends, scan-more}
-use borrow.Author.Rules.{rules}
+use borrow.Enum.Refused.{opened}
 use Rattle.seek.proofs.scan.Goals as goal
 
 pub loop-j-init : goal.loop-j-init
@@ -17,7 +12,7 @@ pub meet-k-requires : goal.meet-k-requires
 meet-k-requires c = record { room = c.requires.room; walkable = rw c.arg-h.ensures (c.requires.under _ (omega (arith, c.arguments-a.ensures))) }
 
 pub returns-in_default : goal.returns-in_default
-returns-in_default c = scan-ends _ _ _ _ _ (omega (arith, c.arguments-a.ensures)) c.arg-h.ensures c.loop-j.invariant.1 c.meet-k.result c.in_default.in_default-own.keys2 c.meet-k.ensures
+returns-in_default c = scan-ends _ _ _ _ _ (omega (arith, c.arguments-a.ensures)) c.arg-h.ensures c.loop-j.invariant.1 c.meet-k.result (opened c.in_default.in_default-own.keys2) c.meet-k.ensures
 
 pub loop-j-smaller : goal.loop-j-smaller
 loop-j-smaller c = omega arith

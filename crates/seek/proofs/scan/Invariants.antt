@@ -1,11 +1,8 @@
 use Prim.Native.Nat.{ℕ, ◌≤◌, ◌<◌, ◌-◌}
-use native.Mathlib.Omega.{arith}
 use lib.ListN.{get_or}
 use Rattle.heap.specs.Graph.{node, args}
 use Rattle.store.specs.Regions.{graph_of, marks_of}
 use Rattle.seek.specs.Search.{IsQuiet}
-use Rattle.seek.proofs.Meets.{scan-ends, scan-more}
-use borrow.Author.Rules.{rules}
 use Rattle.seek.proofs.scan.Given as goal
 
 abbrev pub invariant-loop-j : goal.invariant-loop-j

@@ -1,14 +1,9 @@
 -- The walk. The loop keeps the invariant for any root; `left` never comes to 0.
 -- Assumes nothing.
-use Prim.Native.Nat.{ℕ, ◌+◌, ◌*◌, ◌≤◌}
 use native.Mathlib.Omega.{arith}
-use borrow.Author.Rules.{rules}
-use mathlib.Core.Path.{◌≡◌, refl, ◌∙◌}
-use lib.ListN.{length}
-use Rattle.mem.specs.Words.{words}
+use mathlib.Core.Path.{refl, ◌∙◌}
 use Rattle.seek.specs.Walkable.{found_of}
-use Rattle.seek.specs.Search.{Walks}
-use Rattle.seek.proofs.Steps.{Going, going_start, going-none, going-in, going-fit, leaves-finish, over_none, leaves-hit, trail-hit, found-hit}
+use Rattle.seek.proofs.Steps.{going_start, going-none, going-in, going-fit, leaves-finish, over_none, leaves-hit, trail-hit, found-hit}
 use Rattle.seek.proofs.Ends.{came-on, came-long, came-hit, came-over, product}
 use Rattle.seek.proofs.walk.Goals as goal
 

@@ -1,13 +1,9 @@
 use Prim.Native.Nat.{ℕ, ◌+◌, ◌*◌, ◌≤◌}
-use native.Mathlib.Omega.{arith}
-use borrow.Author.Rules.{rules}
-use mathlib.Core.Path.{◌≡◌, refl, ◌∙◌}
+use mathlib.Core.Path.{◌≡◌}
 use lib.ListN.{length}
 use Rattle.mem.specs.Words.{words}
-use Rattle.seek.specs.Walkable.{found_of}
 use Rattle.seek.specs.Search.{Walks}
-use Rattle.seek.proofs.Steps.{Going, going_start, going-none, going-in, going-fit, leaves-finish, over_none, leaves-hit, trail-hit, found-hit}
-use Rattle.seek.proofs.Ends.{came-on, came-long, came-hit, came-over, product}
+use Rattle.seek.proofs.Steps.{Going}
 use Rattle.seek.proofs.walk.Given as goal
 
 abbrev pub invariant-loop-left : goal.invariant-loop-left

@@ -1,7 +1,6 @@
 use native.Mathlib.Omega.{arith}
 use mathlib.Core.Path.{◌∙◌}
 use Rattle.store.proofs.Laws.{arg-word}
-use borrow.Author.Rules.{rules}
 use Rattle.store.proofs.arg.Goals as goal
 
 pub get-requires : goal.get-requires

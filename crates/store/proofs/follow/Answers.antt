@@ -1,9 +1,6 @@
 use native.Mathlib.Omega.{arith}
-use borrow.Author.Rules.{rules}
 use borrow.Enum.Refused.{opened}
-use mathlib.Core.Path.{◌≡◌, refl, sym, ◌∙◌}
-use Rattle.heap.specs.Graph.{deref}
-use Rattle.store.specs.Regions.{graph_of}
+use mathlib.Core.Path.{refl, sym, ◌∙◌}
 use Rattle.store.proofs.Laws.{seen-fwd, deref-go, deref-stop, deref-end, deref-past, length-graph, follow-is}
 use Rattle.store.proofs.follow.Goals as goal
 

@@ -1,9 +1,6 @@
-use native.Mathlib.Omega.{arith}
-use borrow.Author.Rules.{rules}
-use mathlib.Core.Path.{◌≡◌, refl, sym, ◌∙◌}
+use mathlib.Core.Path.{◌≡◌}
 use Rattle.heap.specs.Graph.{deref}
 use Rattle.store.specs.Regions.{graph_of}
-use Rattle.store.proofs.Laws.{seen-fwd, deref-go, deref-stop, deref-end, deref-past, length-graph, follow-is}
 use Rattle.store.proofs.follow.Given as goal
 
 abbrev pub invariant-loop-left : goal.invariant-loop-left

@@ -1,4 +1,3 @@
-use borrow.Author.Rules.{rules}
 use Rattle.store.proofs.Laws.{link-word}
 use Rattle.store.proofs.get_link.Goals as goal
 

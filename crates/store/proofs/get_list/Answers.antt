@@ -1,4 +1,3 @@
-use borrow.Author.Rules.{rules}
 use Rattle.store.proofs.Laws.{list-word}
 use Rattle.store.proofs.get_list.Goals as goal
 

@@ -1,4 +1,3 @@
-use borrow.Author.Rules.{rules}
 use Rattle.store.proofs.Laws.{mark-word}
 use Rattle.store.proofs.get_mark.Goals as goal
 

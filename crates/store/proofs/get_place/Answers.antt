@@ -1,4 +1,3 @@
-use borrow.Author.Rules.{rules}
 use Rattle.store.proofs.Laws.{place-word}
 use Rattle.store.proofs.get_place.Goals as goal
 

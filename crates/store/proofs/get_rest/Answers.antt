@@ -1,4 +1,3 @@
-use borrow.Author.Rules.{rules}
 use Rattle.store.proofs.Laws.{rest-word}
 use Rattle.store.proofs.get_rest.Goals as goal
 

@@ -1,7 +1,6 @@
 use native.Mathlib.Omega.{arith}
 use Rattle.store.proofs.Laws.{arg-word}
 use Rattle.store.proofs.Laying.{did-arg}
-use borrow.Author.Rules.{rules}
 use Rattle.store.proofs.put_arg.Goals as goal
 
 pub put-requires : goal.put-requires

@@ -1,10 +1,7 @@
 use native.Mathlib.Omega.{arith}
 use borrow.Author.Rules.{rules}
-use Prim.Native.Nat.{◌≤◌, ◌-◌}
 use mathlib.Core.Path.{◌≡◌, refl, ap, ◌∙◌}
-use lib.ListN.{length}
 use Rattle.store.specs.Rows.{filled}
-use Rattle.mem.specs.Words.{words}
 use Rattle.store.proofs.Writes.{pasted, filled_zero}
 use Rattle.store.proofs.put_args.Goals as goal
 

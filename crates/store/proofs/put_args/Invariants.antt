@@ -1,11 +1,8 @@
-use native.Mathlib.Omega.{arith}
-use borrow.Author.Rules.{rules}
 use Prim.Native.Nat.{◌≤◌, ◌-◌}
-use mathlib.Core.Path.{◌≡◌, refl, ap, ◌∙◌}
+use mathlib.Core.Path.{◌≡◌}
 use lib.ListN.{length}
 use Rattle.store.specs.Rows.{filled}
 use Rattle.mem.specs.Words.{words}
-use Rattle.store.proofs.Writes.{pasted, filled_zero}
 use Rattle.store.proofs.put_args.Given as goal
 
 abbrev pub invariant-loop-j : goal.invariant-loop-j

@@ -1,5 +1,4 @@
 use Rattle.store.proofs.Writes.{did-frame}
-use borrow.Author.Rules.{rules}
 use Rattle.store.proofs.put_frame.Goals as goal
 
 pub returns : goal.returns

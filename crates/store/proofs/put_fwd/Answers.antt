@@ -1,5 +1,4 @@
 use Rattle.store.proofs.Writes.{did-fwd}
-use borrow.Author.Rules.{rules}
 use Rattle.store.proofs.put_fwd.Goals as goal
 
 pub returns : goal.returns

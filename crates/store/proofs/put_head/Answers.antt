@@ -1,5 +1,4 @@
 use Rattle.store.proofs.Laying.{did-head}
-use borrow.Author.Rules.{rules}
 use Rattle.store.proofs.put_head.Goals as goal
 
 pub returns : goal.returns

@@ -1,5 +1,4 @@
 use Rattle.store.proofs.Writes.{did-link}
-use borrow.Author.Rules.{rules}
 use Rattle.store.proofs.put_link.Goals as goal
 
 pub returns : goal.returns

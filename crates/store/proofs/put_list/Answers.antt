@@ -1,5 +1,4 @@
 use Rattle.store.proofs.Writes.{did-list}
-use borrow.Author.Rules.{rules}
 use Rattle.store.proofs.put_list.Goals as goal
 
 pub returns : goal.returns

@@ -1,5 +1,4 @@
 use Rattle.store.proofs.Writes.{did-mark}
-use borrow.Author.Rules.{rules}
 use Rattle.store.proofs.put_mark.Goals as goal
 
 pub returns : goal.returns

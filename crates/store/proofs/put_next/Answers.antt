@@ -1,5 +1,4 @@
 use Rattle.store.proofs.Writes.{did-next}
-use borrow.Author.Rules.{rules}
 use Rattle.store.proofs.put_next.Goals as goal
 
 pub returns : goal.returns

@@ -1,5 +1,4 @@
 use Rattle.store.proofs.Writes.{did-place}
-use borrow.Author.Rules.{rules}
 use Rattle.store.proofs.put_place.Goals as goal
 
 pub returns : goal.returns

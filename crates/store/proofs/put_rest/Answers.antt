@@ -1,5 +1,4 @@
 use Rattle.store.proofs.Writes.{did-rest}
-use borrow.Author.Rules.{rules}
 use Rattle.store.proofs.put_rest.Goals as goal
 
 pub returns : goal.returns

@@ -1,5 +1,4 @@
 use Rattle.store.proofs.Writes.{did-var}
-use borrow.Author.Rules.{rules}
 use Rattle.store.proofs.put_var.Goals as goal
 
 pub returns : goal.returns

@@ -1,4 +1,3 @@
-use borrow.Author.Rules.{rules}
 use Rattle.store.proofs.Laws.{frame-words}
 use Rattle.store.proofs.top_frame.Goals as goal
 

@@ -4,7 +4,6 @@ use Rattle.heap.specs.Graph.{Graph, node}
 use Rattle.alternatives.proofs.Rounds.{refused, passed}
 use Rattle.turns.proofs.Turning.{front-calls, turn-stops, turn_is, turn-stays, turn_more, turn-later, turn-finished, turn-searched, turn-rows, turn-stack, silent-is, silent-stays, silent-later, silent-stack}
 use Rattle.turns.proofs.Silent.{finished-no-result}
-use borrow.Author.Rules.{rules}
 use Rattle.turns.proofs.take_turn.Goals as goal
 
 pub returns-then-not-b : goal.returns-then-not-b

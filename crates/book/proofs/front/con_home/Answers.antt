@@ -1,9 +1,5 @@
-use borrow.Author.Rules.{rules}
 use native.Mathlib.Omega.{arith}
-use Prim.Native.Nat.{◌≤◌, ◌<◌, ◌-◌, ◌+◌, ◌*◌}
-use mathlib.Core.Path.{◌≡◌, refl, sym, ◌∙◌, subst}
-use lib.ListN.{get_or, length}
-use Rattle.book.proofs.Lookups.{HomeAt, home-start, home-step, home-end}
+use Rattle.book.proofs.Lookups.{home-start, home-step, home-end}
 use Rattle.book.proofs.front.con_home.Goals as goal
 
 pub bounds-s-1 : goal.bounds-s-1

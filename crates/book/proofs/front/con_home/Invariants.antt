@@ -1,9 +1,7 @@
-use borrow.Author.Rules.{rules}
-use native.Mathlib.Omega.{arith}
-use Prim.Native.Nat.{◌≤◌, ◌<◌, ◌-◌, ◌+◌, ◌*◌}
-use mathlib.Core.Path.{◌≡◌, refl, sym, ◌∙◌, subst}
+use Prim.Native.Nat.{◌≤◌, ◌-◌, ◌+◌}
+use mathlib.Core.Path.{◌≡◌}
 use lib.ListN.{get_or, length}
-use Rattle.book.proofs.Lookups.{HomeAt, home-start, home-step, home-end}
+use Rattle.book.proofs.Lookups.{HomeAt}
 use Rattle.book.proofs.front.con_home.Given as goal
 
 abbrev pub invariant-loop-n : goal.invariant-loop-n

@@ -1,7 +1,6 @@
-use borrow.Author.Rules.{rules}
 use native.Mathlib.Omega.{arith}
-use mathlib.Core.Path.{refl, sym, ◌∙◌}
-use Rattle.book.proofs.Fronts.{ConsAre, cons-start, cons-end, cons-bad, cons-odd, cons-many, cons-arity, cons-more}
+use mathlib.Core.Path.{sym, ◌∙◌}
+use Rattle.book.proofs.Fronts.{cons-start, cons-end, cons-bad, cons-odd, cons-many, cons-arity, cons-more}
 use Rattle.book.proofs.front.read_cons.Goals as goal
 
 pub loop-left-init : goal.loop-left-init

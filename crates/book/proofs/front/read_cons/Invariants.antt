@@ -1,7 +1,4 @@
-use borrow.Author.Rules.{rules}
-use native.Mathlib.Omega.{arith}
-use mathlib.Core.Path.{refl, sym, ◌∙◌}
-use Rattle.book.proofs.Fronts.{ConsAre, cons-start, cons-end, cons-bad, cons-odd, cons-many, cons-arity, cons-more}
+use Rattle.book.proofs.Fronts.{ConsAre}
 use Rattle.book.proofs.front.read_cons.Given as goal
 
 abbrev pub invariant-loop-left : goal.invariant-loop-left

@@ -1,9 +1,7 @@
-use borrow.Author.Rules.{rules}
 use native.Mathlib.Omega.{arith}
-use Prim.Native.Nat.{◌≤◌, ◌-◌, ◌+◌, ◌*◌}
-use mathlib.Core.Path.{refl, sym, ◌∙◌}
+use mathlib.Core.Path.{sym, ◌∙◌}
 use Rattle.book.proofs.Wholes.{types-read}
-use Rattle.book.proofs.Fronts.{TypesAre, types-start, types-bad, types-stop, types-many, types-none, types-over, types-fault, types_more, cons-long}
+use Rattle.book.proofs.Fronts.{types-start, types-bad, types-stop, types-many, types-none, types-over, types-fault, types_more, cons-long}
 use Rattle.book.proofs.front.read_types.Goals as goal
 
 pub loop-kind-init : goal.loop-kind-init

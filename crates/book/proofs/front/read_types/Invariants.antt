@@ -1,9 +1,5 @@
-use borrow.Author.Rules.{rules}
-use native.Mathlib.Omega.{arith}
-use Prim.Native.Nat.{◌≤◌, ◌-◌, ◌+◌, ◌*◌}
-use mathlib.Core.Path.{refl, sym, ◌∙◌}
-use Rattle.book.proofs.Wholes.{types-read}
-use Rattle.book.proofs.Fronts.{TypesAre, types-start, types-bad, types-stop, types-many, types-none, types-over, types-fault, types_more, cons-long}
+use Prim.Native.Nat.{◌≤◌, ◌-◌}
+use Rattle.book.proofs.Fronts.{TypesAre}
 use Rattle.book.proofs.front.read_types.Given as goal
 
 abbrev pub invariant-loop-kind : goal.invariant-loop-kind

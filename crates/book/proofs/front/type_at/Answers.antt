@@ -1,11 +1,6 @@
-use Rattle.book.proofs.Lookups.{TyIs, ty-start, ty-step, ty-end}
-use borrow.Author.Rules.{rules}
+use Rattle.book.proofs.Lookups.{ty-start, ty-step, ty-end}
 use native.Mathlib.Omega.{arith}
-use Prim.Native.Nat.{◌≤◌, ◌<◌, ◌-◌, ◌+◌, ◌*◌}
-use mathlib.Core.Path.{◌≡◌, refl, sym, ◌∙◌}
-use Rattle.book.specs.Syntax.{cons_of, first_con}
-use Rattle.book.specs.Steps.{types_of}
-use Rattle.book.proofs.Lookups.{TyIs, ty-start, ty-step}
+use Rattle.book.proofs.Lookups.{ty-start, ty-step}
 use Rattle.book.proofs.front.type_at.Goals as goal
 
 pub loop-left-init : goal.loop-left-init

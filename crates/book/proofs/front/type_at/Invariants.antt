@@ -1,11 +1,8 @@
-use Rattle.book.proofs.Lookups.{TyIs, ty-start, ty-step, ty-end}
-use borrow.Author.Rules.{rules}
-use native.Mathlib.Omega.{arith}
-use Prim.Native.Nat.{◌≤◌, ◌<◌, ◌-◌, ◌+◌, ◌*◌}
-use mathlib.Core.Path.{◌≡◌, refl, sym, ◌∙◌}
+use Rattle.book.proofs.Lookups.{TyIs}
+use Prim.Native.Nat.{◌≤◌}
 use Rattle.book.specs.Syntax.{cons_of, first_con}
 use Rattle.book.specs.Steps.{types_of}
-use Rattle.book.proofs.Lookups.{TyIs, ty-start, ty-step}
+use Rattle.book.proofs.Lookups.{TyIs}
 use Rattle.book.proofs.front.type_at.Given as goal
 
 abbrev pub invariant-loop-left : goal.invariant-loop-left

@@ -1,4 +1,3 @@
-use borrow.Author.Rules.{rules}
 use Rattle.book.specs.Steps.{type_fault}
 use Rattle.book.proofs.front.type_fault.Goals as goal
 

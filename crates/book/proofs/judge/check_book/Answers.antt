@@ -1,5 +1,4 @@
 use Rattle.book.proofs.Asked.{judged-book}
-use borrow.Author.Rules.{rules}
 use Rattle.book.proofs.judge.check_book.Goals as goal
 
 pub returns : goal.returns

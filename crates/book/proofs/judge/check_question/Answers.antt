@@ -1,7 +1,5 @@
-use native.Mathlib.Omega.{arith}
 use Rattle.book.proofs.Wholes.{part-long}
 use Rattle.book.proofs.Asked.{judged-first, judged-question, was_read}
-use borrow.Author.Rules.{rules}
 use Rattle.book.proofs.judge.check_question.Goals as goal
 
 pub returns-in_default : goal.returns-in_default

@@ -1,5 +1,4 @@
 use Rattle.book.specs.Steps.{question_verdict}
-use borrow.Author.Rules.{rules}
 use Rattle.book.proofs.judge.on_question.Goals as goal
 
 pub returns-in-Fault : goal.returns-in-Fault

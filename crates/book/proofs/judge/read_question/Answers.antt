@@ -1,5 +1,4 @@
 use Rattle.book.proofs.Asked.{ask-first, ask-right, ask-over, ask-ok}
-use borrow.Author.Rules.{rules}
 use Rattle.book.proofs.judge.read_question.Goals as goal
 
 pub returns-in_default : goal.returns-in_default

@@ -1,4 +1,3 @@
-use borrow.Author.Rules.{rules}
 use Rattle.book.specs.Steps.{bad_at}
 use Rattle.book.proofs.record.bad.Goals as goal
 

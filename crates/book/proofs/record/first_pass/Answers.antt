@@ -1,12 +1,7 @@
-use borrow.Author.Rules.{rules}
 use native.Mathlib.Omega.{arith}
-use Prim.Native.Nat.{◌≤◌, ◌-◌}
 use mathlib.Core.Path.{refl, sym, ◌∙◌}
-use lib.ListN.{length}
-use Rattle.book.specs.Record.{scan, book_fits}
-use Rattle.book.specs.Steps.{step}
 use Rattle.book.proofs.Records.{of-known}
-use Rattle.book.proofs.Scans.{ScanIs, scan-start, scan-end, scan-bad, scan-unfit, scan-func, scan-other, fits-other, fits-func, fits-arity, fits-many, FuncsIn, funcs-start, funcs-done, funcs-met, funcs-passed, pass-bad, pass-range, pass-ok}
+use Rattle.book.proofs.Scans.{scan-start, scan-bad, scan-unfit, scan-func, scan-other, fits-other, fits-func, fits-arity, fits-many, funcs-start, funcs-done, funcs-met, funcs-passed, pass-bad, pass-range, pass-ok}
 use Rattle.book.proofs.record.first_pass.Goals as goal
 
 pub loop-at-init : goal.loop-at-init

@@ -1,12 +1,8 @@
-use borrow.Author.Rules.{rules}
-use native.Mathlib.Omega.{arith}
-use Prim.Native.Nat.{◌≤◌, ◌-◌}
-use mathlib.Core.Path.{refl, sym, ◌∙◌}
+use Prim.Native.Nat.{◌-◌}
 use lib.ListN.{length}
 use Rattle.book.specs.Record.{scan, book_fits}
 use Rattle.book.specs.Steps.{step}
-use Rattle.book.proofs.Records.{of-known}
-use Rattle.book.proofs.Scans.{ScanIs, scan-start, scan-end, scan-bad, scan-unfit, scan-func, scan-other, fits-other, fits-func, fits-arity, fits-many, FuncsIn, funcs-start, funcs-done, funcs-met, funcs-passed, pass-bad, pass-range, pass-ok}
+use Rattle.book.proofs.Scans.{ScanIs, FuncsIn}
 use Rattle.book.proofs.record.first_pass.Given as goal
 
 abbrev pub invariant-loop-at : goal.invariant-loop-at

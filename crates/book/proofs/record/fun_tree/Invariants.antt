@@ -1,11 +1,7 @@
-use borrow.Author.Rules.{rules}
-use native.Mathlib.Omega.{arith}
-use Prim.Native.Nat.{◌≤◌, ◌-◌}
-use mathlib.Core.Path.{◌≡◌, refl, sym, ◌∙◌}
+use Prim.Native.Nat.{◌-◌}
 use lib.ListN.{length}
 use Rattle.book.specs.Facts.{tree_from}
-use Rattle.book.proofs.Records.{of-known}
-use Rattle.book.proofs.Starts.{FromIs, from_start, loop-end, loop-bad, loop-this, loop-next, loop-other, tree-stands}
+use Rattle.book.proofs.Starts.{FromIs}
 use Rattle.book.proofs.record.fun_tree.Given as goal
 
 abbrev pub invariant-loop-at : goal.invariant-loop-at

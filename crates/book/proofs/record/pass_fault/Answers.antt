@@ -1,5 +1,4 @@
 use Rattle.book.specs.Steps.{pass_fault}
-use borrow.Author.Rules.{rules}
 use Rattle.book.proofs.record.pass_fault.Goals as goal
 
 pub returns-in-Fault : goal.returns-in-Fault

@@ -1,7 +1,6 @@
 use native.Mathlib.Omega.{arith}
 use mathlib.Core.Path.{sym}
 use Rattle.book.proofs.Records.{rec-end, rec-unknown, rec-none, rec-two, rec-two-cut, rec_one, rec-one-cut, body-zero, body-over}
-use borrow.Author.Rules.{rules}
 use Rattle.book.proofs.record.rec_at.Goals as goal
 
 pub returns-then-s-at : goal.returns-then-s-at

@@ -1,11 +1,5 @@
-use borrow.Author.Rules.{rules}
-use Rattle.book.proofs.Scans.{AnyIs, scan-start, scan-end, scan-bad, scan-any}
+use Rattle.book.proofs.Scans.{scan-start, scan-end, scan-bad, scan-any}
 use Rattle.book.proofs.Records.{of-known}
-use Rattle.book.specs.Steps.{step}
-use Rattle.book.specs.Record.{scan, any_fits}
-use mathlib.Core.Path.{◌≡◌, ◌∙◌, ap, sym}
-use lib.ListN.{length}
-use Prim.Native.Nat.{◌≤◌, ◌-◌}
 use native.Mathlib.Omega.{arith}
 use Rattle.book.proofs.record.whole.Goals as goal
 

@@ -1,7 +1,6 @@
 use Rattle.book.proofs.Parts.{place-next, place-fault}
 use Rattle.book.specs.Steps.{moved}
 use native.Mathlib.Omega.{arith}
-use borrow.Author.Rules.{rules}
 use Rattle.book.proofs.shelf.move_on.Goals as goal
 
 pub overflow_add-result : goal.overflow_add-result

@@ -1,5 +1,4 @@
 use Rattle.book.specs.Steps.{pass_lost}
-use borrow.Author.Rules.{rules}
 use Rattle.book.proofs.shelf.no_pass.Goals as goal
 
 pub returns-in-Fault : goal.returns-in-Fault

@@ -1,5 +1,4 @@
 use Rattle.book.specs.Steps.{types_lost}
-use borrow.Author.Rules.{rules}
 use Rattle.book.proofs.shelf.no_types.Goals as goal
 
 pub returns-in-Fault : goal.returns-in-Fault

@@ -1,5 +1,4 @@
 use Rattle.book.specs.Steps.{read_of}
-use borrow.Author.Rules.{rules}
 use Rattle.book.proofs.shelf.on_funcs.Goals as goal
 
 pub returns-in-Fault : goal.returns-in-Fault

@@ -1,6 +1,5 @@
 use native.Mathlib.Omega.{arith}
 use Rattle.book.proofs.Wholes.{book-long, book-first, book-types, book-funcs, was-passed, was-typed, part-long}
-use borrow.Author.Rules.{rules}
 use Rattle.book.proofs.shelf.read_book.Goals as goal
 
 pub returns-then-s-gt32768 : goal.returns-then-s-gt32768

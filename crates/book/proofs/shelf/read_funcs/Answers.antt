@@ -1,12 +1,7 @@
-use borrow.Author.Rules.{rules}
 use native.Mathlib.Omega.{arith}
-use Prim.Native.Nat.{◌≤◌, ◌<◌, ◌-◌, ◌+◌, ◌*◌}
-use lib.ListN.{length}
-use Rattle.book.specs.Reading.{read_funcs}
-use Rattle.book.specs.Steps.{step, types_of}
 use Rattle.book.proofs.Records.{of-known}
 use Rattle.book.proofs.Woods.{tree-next, tree-part, part-within}
-use Rattle.book.proofs.Wholes.{FuncsAre, funcs-start, funcs-end, funcs-bad, funcs-odd, funcs-over, funcs-fault, funcs-more}
+use Rattle.book.proofs.Wholes.{funcs-start, funcs-end, funcs-bad, funcs-odd, funcs-over, funcs-fault, funcs-more}
 use Rattle.book.proofs.shelf.read_funcs.Goals as goal
 
 pub loop-at-init : goal.loop-at-init

@@ -2,7 +2,6 @@ use Rattle.book.specs.Steps.{within}
 use Prim.Native.Nat.{◌<◌, ◌≤◌}
 use native.Mathlib.Omega.{arith}
 use borrow.Author.Tests.{lt-ltb, le-ltb}
-use borrow.Author.Rules.{rules}
 use Rattle.book.proofs.term.below.Goals as goal
 
 pub returns-then-wide-n : goal.returns-then-wide-n

@@ -1,5 +1,4 @@
 use Rattle.book.proofs.Lookups.{found_at, found-no}
-use borrow.Author.Rules.{rules}
 use Rattle.book.proofs.term.con_arity.Goals as goal
 
 pub returns-then-i-cons : goal.returns-then-i-cons

@@ -1,5 +1,4 @@
 use Rattle.book.proofs.Lookups.{found_at, found-no}
-use borrow.Author.Rules.{rules}
 use Rattle.book.proofs.term.fun_arity.Goals as goal
 
 pub returns-then-i-funcs : goal.returns-then-i-funcs

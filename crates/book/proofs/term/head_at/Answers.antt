@@ -1,7 +1,6 @@
 use native.Mathlib.Omega.{arith}
 use borrow.Author.Tests.{lt-ltb, le-ltb}
 use Rattle.book.proofs.Words.{head-bad, head-low, head-high, head-full, head-con, head-fun, head-slot, head-var}
-use borrow.Author.Rules.{rules}
 use Rattle.book.proofs.term.head_at.Goals as goal
 
 pub returns-then-kind-lt7 : goal.returns-then-kind-lt7

@@ -1,5 +1,4 @@
 use Rattle.book.specs.Steps.{named_args}
-use borrow.Author.Rules.{rules}
 use Rattle.book.proofs.term.named.Goals as goal
 
 pub returns-in-At : goal.returns-in-At

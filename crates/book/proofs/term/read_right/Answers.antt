@@ -1,5 +1,4 @@
 use Rattle.book.proofs.Words.{right-bad, right-odd, right-over, right-term}
-use borrow.Author.Rules.{rules}
 use Rattle.book.proofs.term.read_right.Goals as goal
 
 pub returns-in_default : goal.returns-in_default

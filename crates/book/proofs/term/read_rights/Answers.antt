@@ -1,9 +1,5 @@
-use borrow.Author.Rules.{rules}
-use mathlib.Core.Option.{some}
 use mathlib.Core.Path.{refl}
-use Rattle.book.specs.Steps.{step}
-use Rattle.book.specs.Reading.{read_right, read_rights}
-use Rattle.book.proofs.Words.{RightsAre, rights-end, rights-fault, rights-more}
+use Rattle.book.proofs.Words.{rights-end, rights-fault, rights-more}
 use Rattle.book.proofs.term.read_rights.Goals as goal
 
 pub loop-left-init : goal.loop-left-init

@@ -1,9 +1,7 @@
-use borrow.Author.Rules.{rules}
 use mathlib.Core.Option.{some}
-use mathlib.Core.Path.{refl}
 use Rattle.book.specs.Steps.{step}
 use Rattle.book.specs.Reading.{read_right, read_rights}
-use Rattle.book.proofs.Words.{RightsAre, rights-end, rights-fault, rights-more}
+use Rattle.book.proofs.Words.{RightsAre}
 use Rattle.book.proofs.term.read_rights.Given as goal
 
 abbrev pub invariant-loop-left : goal.invariant-loop-left

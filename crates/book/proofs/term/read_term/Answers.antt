@@ -1,10 +1,6 @@
-use borrow.Author.Rules.{rules}
 use native.Mathlib.Omega.{arith}
-use Prim.Native.Nat.{◌≤◌, ◌<◌, ◌-◌, ◌+◌, ◌*◌}
 use mathlib.Core.Path.{refl}
-use Rattle.book.specs.Steps.{step, names}
-use Rattle.book.specs.Reading.{read_terms}
-use Rattle.book.proofs.Words.{TermsIs, term-end, term-fault, term-more}
+use Rattle.book.proofs.Words.{term-end, term-fault, term-more}
 use Rattle.book.proofs.term.read_term.Goals as goal
 
 pub loop-due-init : goal.loop-due-init

@@ -1,10 +1,7 @@
-use borrow.Author.Rules.{rules}
-use native.Mathlib.Omega.{arith}
-use Prim.Native.Nat.{◌≤◌, ◌<◌, ◌-◌, ◌+◌, ◌*◌}
-use mathlib.Core.Path.{refl}
+use Prim.Native.Nat.{◌≤◌, ◌+◌, ◌*◌}
 use Rattle.book.specs.Steps.{step, names}
 use Rattle.book.specs.Reading.{read_terms}
-use Rattle.book.proofs.Words.{TermsIs, term-end, term-fault, term-more}
+use Rattle.book.proofs.Words.{TermsIs}
 use Rattle.book.proofs.term.read_term.Given as goal
 
 abbrev pub invariant-loop-due : goal.invariant-loop-due

@@ -1,7 +1,6 @@
 use mathlib.Core.Path.{ap}
 use Rattle.book.specs.Steps.{slots_of}
 use Rattle.book.proofs.Words.{slot-none, slot-room, slot-below}
-use borrow.Author.Rules.{rules}
 use Rattle.book.proofs.term.slot_at.Goals as goal
 
 pub returns-then-room-eq0 : goal.returns-then-room-eq0

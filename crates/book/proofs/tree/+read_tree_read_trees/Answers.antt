@@ -1,12 +1,8 @@
-use Prim.Native.Nat.{ℕ, ◌+◌, ◌*◌, ◌-◌, ◌<◌}
-use lib.ListN.{length}
 use mathlib.Core.Path.{refl}
 use native.Mathlib.Omega.{arith}
-use borrow.Author.Rules.{rules}
-use Rattle.book.specs.Steps.{types_of, live}
 use Rattle.book.proofs.Records.{of-known}
 use Rattle.book.proofs.Places.{live-long, was-can, was-not}
-use Rattle.book.proofs.Woods.{tree-bad, tree-unsplit, tree-split', tree-none, tree_over, tree-rule, tree-nil, tree-odd, TreesAre, trees-start, trees-end, trees-fault, trees-more, fits-first}
+use Rattle.book.proofs.Woods.{tree-bad, tree-unsplit, tree-split', tree-none, tree_over, tree-rule, tree-nil, tree-odd, trees-start, trees-end, trees-fault, trees-more, fits-first}
 use Rattle.book.proofs.tree.+read_tree_read_trees.Goals as goal
 
 pub read_tree-returns-in_default : goal.read_tree-returns-in_default

@@ -1,10 +1,6 @@
-use borrow.Author.Rules.{rules}
-use Rattle.book.proofs.Fronts.{FitIs, fit-end, fit-over, fit-more}
-use Rattle.book.specs.Steps.{cons_from}
-use Rattle.book.specs.Reading.{all_fit}
+use Rattle.book.proofs.Fronts.{fit-end, fit-over, fit-more}
 use mathlib.Core.Path.{refl}
-use lib.ListN.{length}
-use Prim.Native.Nat.{◌≤◌, ◌-◌, ◌+◌, ◌*◌}
+use Prim.Native.Nat.{◌+◌}
 use native.Mathlib.Omega.{arith}
 use Rattle.book.proofs.tree.all_fit.Goals as goal
 

@@ -1,11 +1,8 @@
-use borrow.Author.Rules.{rules}
-use Rattle.book.proofs.Fronts.{FitIs, fit-end, fit-over, fit-more}
+use Rattle.book.proofs.Fronts.{FitIs}
 use Rattle.book.specs.Steps.{cons_from}
 use Rattle.book.specs.Reading.{all_fit}
-use mathlib.Core.Path.{refl}
 use lib.ListN.{length}
-use Prim.Native.Nat.{◌≤◌, ◌-◌, ◌+◌, ◌*◌}
-use native.Mathlib.Omega.{arith}
+use Prim.Native.Nat.{◌≤◌, ◌+◌, ◌*◌}
 use Rattle.book.proofs.tree.all_fit.Given as goal
 
 abbrev pub invariant-loop-left : goal.invariant-loop-left

@@ -1,7 +1,6 @@
-use mathlib.Core.Path.{◌≡◌, refl, sym, ◌∙◌}
+use mathlib.Core.Path.{refl}
 use native.Mathlib.Omega.{arith}
 use Rattle.book.proofs.Places.{split-none, split-deep, split-type, split-can, split-over}
-use borrow.Author.Rules.{rules}
 use Rattle.book.proofs.tree.splits.Goals as goal
 
 pub returns-then-n-slot : goal.returns-then-n-slot

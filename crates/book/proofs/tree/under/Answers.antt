@@ -1,9 +1,6 @@
-use borrow.Author.Rules.{rules}
-use Rattle.book.proofs.Places.{Grown, grown-none, grown-more, grown-end, slot-depth}
+use Rattle.book.proofs.Places.{grown-none, grown-more, grown-end, slot-depth}
 use lib.ListN.{length-set}
-use mathlib.Core.Path.{◌∙◌}
 use native.Mathlib.Omega.{arith}
-use Prim.Native.Nat.{◌≤◌, ◌<◌, ◌-◌, ◌+◌, ◌*◌}
 use Rattle.book.proofs.tree.under.Goals as goal
 
 pub bounds-depth-slot : goal.bounds-depth-slot

@@ -1,9 +1,5 @@
-use borrow.Author.Rules.{rules}
-use Rattle.book.proofs.Places.{Grown, grown-none, grown-more, grown-end, slot-depth}
-use lib.ListN.{length-set}
-use mathlib.Core.Path.{◌∙◌}
-use native.Mathlib.Omega.{arith}
-use Prim.Native.Nat.{◌≤◌, ◌<◌, ◌-◌, ◌+◌, ◌*◌}
+use Rattle.book.proofs.Places.{Grown}
+use Prim.Native.Nat.{◌≤◌, ◌-◌, ◌+◌}
 use Rattle.book.proofs.tree.under.Given as goal
 
 abbrev pub invariant-loop-i : goal.invariant-loop-i

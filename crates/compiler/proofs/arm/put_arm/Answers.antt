@@ -1,10 +1,7 @@
 use native.Mathlib.Omega.{arith}
-use mathlib.Core.Path.{◌≡◌, refl}
-use Prim.Native.Nat.{◌+◌}
-use lib.ListN.{take, drop}
+use mathlib.Core.Path.{refl}
 use Rattle.compiler.proofs.Writing.{emits-long, progress_start, progress_step, progress-end, progress-room}
 use Rattle.compiler.proofs.Loops.{arm_step, arm-none, arm-room}
-use Rattle.compiler.specs.Rows.{Progress, arm_code}
 use Rattle.compiler.proofs.arm.put_arm.Goals as goal
 
 pub loop-left-init : goal.loop-left-init

@@ -1,9 +1,6 @@
-use native.Mathlib.Omega.{arith}
-use mathlib.Core.Path.{◌≡◌, refl}
+use mathlib.Core.Path.{◌≡◌}
 use Prim.Native.Nat.{◌+◌}
 use lib.ListN.{take, drop}
-use Rattle.compiler.proofs.Writing.{emits-long, progress_start, progress_step, progress-end, progress-room}
-use Rattle.compiler.proofs.Loops.{arm_step, arm-none, arm-room}
 use Rattle.compiler.specs.Rows.{Progress, arm_code}
 use Rattle.compiler.proofs.arm.put_arm.Given as goal
 

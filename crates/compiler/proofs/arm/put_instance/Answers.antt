@@ -1,9 +1,7 @@
 use native.Mathlib.Omega.{arith}
-use mathlib.Core.List.{[], ◌∷◌, ◌++◌}
-use lib.ListN.{replicate}
+use mathlib.Core.List.{[], ◌∷◌}
 use Rattle.compiler.proofs.Writing.{emits-long, progress_start, progress_step, progress-end, progress-room}
 use Rattle.compiler.proofs.Loops.{more, none_left, instance-long}
-use Rattle.compiler.specs.Rows.{Progress}
 use Rattle.compiler.proofs.arm.put_instance.Goals as goal
 
 pub loop-left-init : goal.loop-left-init

@@ -1,8 +1,5 @@
-use native.Mathlib.Omega.{arith}
 use mathlib.Core.List.{[], ◌∷◌, ◌++◌}
 use lib.ListN.{replicate}
-use Rattle.compiler.proofs.Writing.{emits-long, progress_start, progress_step, progress-end, progress-room}
-use Rattle.compiler.proofs.Loops.{more, none_left, instance-long}
 use Rattle.compiler.specs.Rows.{Progress}
 use Rattle.compiler.proofs.arm.put_instance.Given as goal
 

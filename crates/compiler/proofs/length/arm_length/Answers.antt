@@ -1,8 +1,5 @@
-use borrow.Author.Rules.{rules}
 use native.Mathlib.Omega.{arith}
-use mathlib.Core.Path.{◌≡◌, refl}
-use Prim.Native.Nat.{◌+◌, ◌*◌, ◌≤◌}
-use Rattle.compiler.specs.Rows.{arm_at}
+use mathlib.Core.Path.{refl}
 use Rattle.compiler.proofs.Costs.{arm_more, arm_end}
 use Rattle.compiler.proofs.length.arm_length.Goals as goal
 

@@ -1,9 +1,6 @@
-use borrow.Author.Rules.{rules}
-use native.Mathlib.Omega.{arith}
-use mathlib.Core.Path.{◌≡◌, refl}
+use mathlib.Core.Path.{◌≡◌}
 use Prim.Native.Nat.{◌+◌, ◌*◌, ◌≤◌}
 use Rattle.compiler.specs.Rows.{arm_at}
-use Rattle.compiler.proofs.Costs.{arm_more, arm_end}
 use Rattle.compiler.proofs.length.arm_length.Given as goal
 
 abbrev pub invariant-loop-left : goal.invariant-loop-left

@@ -1,9 +1,5 @@
-use borrow.Author.Rules.{rules}
 use native.Mathlib.Omega.{arith}
-use Prim.Native.Nat.{◌-◌, ◌*◌, ◌≤◌}
-use lib.ListN.{length}
-use Rattle.compiler.specs.Here.{Surveyed}
-use Rattle.compiler.proofs.Costs.{Ahead, short, ahead-start, ahead-on, ahead-end}
+use Rattle.compiler.proofs.Costs.{short, ahead-start, ahead-on, ahead-end}
 use Rattle.compiler.proofs.length.code_length.Goals as goal
 
 pub loop-at-init : goal.loop-at-init

@@ -1,7 +1,5 @@
 use native.Mathlib.Omega.{arith}
-use mathlib.Core.Path.{◌≡◌, refl, ap, ◌∙◌}
-use Prim.Native.Nat.{◌-◌, ◌≤◌}
-use lib.ListN.{length, take}
+use mathlib.Core.Path.{refl, ap, ◌∙◌}
 use lib.Seq.{sets, length-sets, take_all}
 use Rattle.compiler.proofs.Funcs.{copy_step}
 use Rattle.compiler.proofs.lore.copy.Goals as goal

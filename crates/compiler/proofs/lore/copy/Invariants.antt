@@ -1,9 +1,7 @@
-use native.Mathlib.Omega.{arith}
-use mathlib.Core.Path.{◌≡◌, refl, ap, ◌∙◌}
+use mathlib.Core.Path.{◌≡◌}
 use Prim.Native.Nat.{◌-◌, ◌≤◌}
 use lib.ListN.{length, take}
-use lib.Seq.{sets, length-sets, take_all}
-use Rattle.compiler.proofs.Funcs.{copy_step}
+use lib.Seq.{sets}
 use Rattle.compiler.proofs.lore.copy.Given as goal
 
 abbrev pub invariant-loop-j : goal.invariant-loop-j

@@ -1,7 +1,6 @@
-use borrow.Author.Rules.{rules}
 use native.Mathlib.Omega.{arith}
-use mathlib.Core.Path.{◌≡◌, ap, sym, ◌∙◌}
-use Prim.Native.Nat.{◌+◌, ◌-◌, ◌*◌, ◌≤◌}
+use mathlib.Core.Path.{ap, sym, ◌∙◌}
+use Prim.Native.Nat.{◌+◌}
 use Rattle.compiler.specs.Tables.{front_at}
 use Rattle.compiler.proofs.Filling.{front-more, front-none}
 use Rattle.compiler.proofs.lore.front_at.Goals as goal

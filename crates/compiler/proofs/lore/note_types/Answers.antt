@@ -1,6 +1,5 @@
 use native.Mathlib.Omega.{arith}
 use mathlib.Core.Path.{subst}
-use Prim.Native.Nat.{◌-◌, ◌≤◌}
 use lib.ListN.{length-set}
 use Rattle.compiler.specs.Here.{TypesNoted}
 use Rattle.compiler.proofs.Funcs.{noted-start, noted_step, types-small}

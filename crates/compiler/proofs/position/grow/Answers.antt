@@ -1,6 +1,5 @@
 use native.Mathlib.Omega.{arith}
 use mathlib.Core.Path.{◌∙◌, subst}
-use Prim.Native.Nat.{◌-◌, ◌≤◌}
 use Rattle.compiler.specs.Rows.{Grown}
 use Rattle.compiler.proofs.Rowing.{grown-start, grown-step}
 use Rattle.compiler.proofs.Trees.{grow-kept}

@@ -1,11 +1,7 @@
-use borrow.Author.Rules.{rules}
 use native.Mathlib.Omega.{arith}
-use mathlib.Core.Path.{◌≡◌, refl, ◌∙◌}
-use Prim.Native.Nat.{◌-◌, ◌≤◌}
-use lib.ListN.{take}
-use lib.Seq.{sets, length-sets}
+use mathlib.Core.Path.{refl, ◌∙◌}
+use lib.Seq.{length-sets}
 use Rattle.compiler.proofs.Loops.{row-long, row_step, row-all}
-use Rattle.compiler.specs.Rows.{row}
 use Rattle.compiler.proofs.position.put_row.Goals as goal
 
 pub overflow_mul-from : goal.overflow_mul-from

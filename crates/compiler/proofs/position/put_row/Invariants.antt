@@ -1,10 +1,7 @@
-use borrow.Author.Rules.{rules}
-use native.Mathlib.Omega.{arith}
-use mathlib.Core.Path.{◌≡◌, refl, ◌∙◌}
+use mathlib.Core.Path.{◌≡◌}
 use Prim.Native.Nat.{◌-◌, ◌≤◌}
 use lib.ListN.{take}
-use lib.Seq.{sets, length-sets}
-use Rattle.compiler.proofs.Loops.{row-long, row_step, row-all}
+use lib.Seq.{sets}
 use Rattle.compiler.specs.Rows.{row}
 use Rattle.compiler.proofs.position.put_row.Given as goal
 

@@ -1,10 +1,7 @@
-use borrow.Author.Rules.{rules}
 use native.Mathlib.Omega.{arith}
-use mathlib.Core.Path.{◌≡◌, refl}
-use Prim.Native.Nat.{◌-◌, ◌*◌, ◌≤◌}
-use lib.ListN.{take, length-set}
-use lib.Seq.{sets, length-sets}
-use Rattle.compiler.specs.Rows.{row}
+use mathlib.Core.Path.{refl}
+use lib.ListN.{length-set}
+use lib.Seq.{length-sets}
 use Rattle.compiler.proofs.Rowing.{copied-step, stepped}
 use Rattle.compiler.proofs.position.put_step.Goals as goal
 

@@ -1,11 +1,8 @@
-use borrow.Author.Rules.{rules}
-use native.Mathlib.Omega.{arith}
-use mathlib.Core.Path.{◌≡◌, refl}
+use mathlib.Core.Path.{◌≡◌}
 use Prim.Native.Nat.{◌-◌, ◌*◌, ◌≤◌}
-use lib.ListN.{take, length-set}
-use lib.Seq.{sets, length-sets}
+use lib.ListN.{take}
+use lib.Seq.{sets}
 use Rattle.compiler.specs.Rows.{row}
-use Rattle.compiler.proofs.Rowing.{copied-step, stepped}
 use Rattle.compiler.proofs.position.put_step.Given as goal
 
 abbrev pub invariant-loop-j : goal.invariant-loop-j

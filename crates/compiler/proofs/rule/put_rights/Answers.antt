@@ -3,8 +3,7 @@ use mathlib.Core.Path.{refl, ap}
 use Rattle.compiler.proofs.Writing.{emits-long, emits-as}
 use Rattle.compiler.proofs.Loops.{vars-long, progress-long}
 use Rattle.compiler.specs.Rows.{vars_code}
-use Rattle.compiler.proofs.Rights.{Left, left-start, left-turns, left-none}
-use Rattle.compiler.specs.Here.{RightsHere}
+use Rattle.compiler.proofs.Rights.{left-start, left-turns, left-none}
 use Rattle.compiler.proofs.rule.put_rights.Goals as goal
 
 pub loop-left-init : goal.loop-left-init
@@ -26,7 +25,7 @@ pub put_vars-p-requires : goal.put_vars-p-requires
 put_vars-p-requires c = let a = (left-turns c.requires (c.loop-left.invariant c.requires) c.loop-left-test.true).ahead in let b = (left-turns c.requires (c.loop-left.invariant c.requires) c.loop-left-test.true).are in omega arith
 
 pub put_term-out-requires : goal.put_term-out-requires
-put_term-out-requires c = let z = c.term_size-size.ensures (left-turns c.requires (c.loop-left.invariant c.requires) c.loop-left-test.true).here in let a = (left-turns c.requires (c.loop-left.invariant c.requires) c.loop-left-test.true).ahead in let b = (left-turns c.requires (c.loop-left.invariant c.requires) c.loop-left-test.true).are in let n = emits-long c.put_vars-p.ensures in let l = vars-long (left-turns c.requires (c.loop-left.invariant c.requires) c.loop-left-test.true).vars in let q = rw b at c.put_vars-p.ensures.next in rw z ((c.requires.are.long, omega (arith, (left-turns c.requires (c.loop-left.invariant c.requires) c.loop-left-test.true).inside)), omega arith)
+put_term-out-requires c = let z = c.term_size-size.ensures (left-turns c.requires (c.loop-left.invariant c.requires) c.loop-left-test.true).here in let a = (left-turns c.requires (c.loop-left.invariant c.requires) c.loop-left-test.true).ahead in let b = (left-turns c.requires (c.loop-left.invariant c.requires) c.loop-left-test.true).are in let n = emits-long c.put_vars-p.ensures in let l = vars-long (left-turns c.requires (c.loop-left.invariant c.requires) c.loop-left-test.true).vars in let q = rw b at c.put_vars-p.ensures.next in rw z (record { rows_len = (c.requires.are.long, omega (arith, (left-turns c.requires (c.loop-left.invariant c.requires) c.loop-left-test.true).inside)); n_in_bounds = omega arith })
 
 pub overflow_mul-at : goal.overflow_mul-at
 overflow_mul-at c = let z = c.term_size-size.ensures (left-turns c.requires (c.loop-left.invariant c.requires) c.loop-left-test.true).here in omega (arith, (left-turns c.requires (c.loop-left.invariant c.requires) c.loop-left-test.true).inside)

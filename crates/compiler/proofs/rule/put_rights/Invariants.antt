@@ -1,9 +1,4 @@
-use native.Mathlib.Omega.{arith}
-use mathlib.Core.Path.{refl, ap}
-use Rattle.compiler.proofs.Writing.{emits-long, emits-as}
-use Rattle.compiler.proofs.Loops.{vars-long, progress-long}
-use Rattle.compiler.specs.Rows.{vars_code}
-use Rattle.compiler.proofs.Rights.{Left, left-start, left-turns, left-none}
+use Rattle.compiler.proofs.Rights.{Left}
 use Rattle.compiler.specs.Here.{RightsHere}
 use Rattle.compiler.proofs.rule.put_rights.Given as goal
 

@@ -1,9 +1,8 @@
 use native.Mathlib.Omega.{arith}
 use mathlib.Core.Path.{refl, ap}
-use Prim.Native.Nat.{◌-◌, ◌≤◌}
 use Rattle.compiler.proofs.Writing.{emits-long, emits_then, emits-as}
 use Rattle.compiler.proofs.Loops.{vars-long, vars-more}
-use Rattle.compiler.specs.Rows.{Emits, vars_code}
+use Rattle.compiler.specs.Rows.{vars_code}
 use Rattle.compiler.proofs.rule.put_vars.Goals as goal
 
 pub loop-i-init : goal.loop-i-init

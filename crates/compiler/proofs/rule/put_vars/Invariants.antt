@@ -1,8 +1,4 @@
-use native.Mathlib.Omega.{arith}
-use mathlib.Core.Path.{refl, ap}
 use Prim.Native.Nat.{◌-◌, ◌≤◌}
-use Rattle.compiler.proofs.Writing.{emits-long, emits_then, emits-as}
-use Rattle.compiler.proofs.Loops.{vars-long, vars-more}
 use Rattle.compiler.specs.Rows.{Emits, vars_code}
 use Rattle.compiler.proofs.rule.put_vars.Given as goal
 

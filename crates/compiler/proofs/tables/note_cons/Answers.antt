@@ -1,8 +1,5 @@
 use native.Mathlib.Omega.{arith}
-use mathlib.Core.Path.{◌≡◌, refl, ◌∙◌, subst}
-use Prim.Native.Nat.{◌-◌, ◌≤◌}
-use lib.ListN.{length}
-use Rattle.mem.specs.Words.{words}
+use mathlib.Core.Path.{refl, ◌∙◌, subst}
 use Rattle.compiler.specs.Tables.{ConsNoted}
 use Rattle.compiler.proofs.Filling.{cons-start, cons-step, home-small}
 use Rattle.compiler.proofs.tables.note_cons.Goals as goal

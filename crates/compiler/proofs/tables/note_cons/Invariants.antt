@@ -1,10 +1,8 @@
-use native.Mathlib.Omega.{arith}
-use mathlib.Core.Path.{◌≡◌, refl, ◌∙◌, subst}
+use mathlib.Core.Path.{◌≡◌}
 use Prim.Native.Nat.{◌-◌, ◌≤◌}
 use lib.ListN.{length}
 use Rattle.mem.specs.Words.{words}
 use Rattle.compiler.specs.Tables.{ConsNoted}
-use Rattle.compiler.proofs.Filling.{cons-start, cons-step, home-small}
 use Rattle.compiler.proofs.tables.note_cons.Given as goal
 
 abbrev pub invariant-loop-c : goal.invariant-loop-c

@@ -1,8 +1,6 @@
 use native.Mathlib.Omega.{arith}
-use mathlib.Core.Path.{◌≡◌, refl, ◌∙◌, subst}
-use Prim.Native.Nat.{◌+◌, ◌-◌, ◌≤◌}
-use lib.ListN.{length}
-use Rattle.mem.specs.Words.{words}
+use mathlib.Core.Path.{refl, ◌∙◌, subst}
+use Prim.Native.Nat.{◌+◌}
 use Rattle.compiler.specs.Tables.{FunsNoted}
 use Rattle.compiler.proofs.Filling.{funs-start, funs-step}
 use Rattle.compiler.proofs.tables.note_funs.Goals as goal

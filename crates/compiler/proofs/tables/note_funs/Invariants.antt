@@ -1,10 +1,8 @@
-use native.Mathlib.Omega.{arith}
-use mathlib.Core.Path.{◌≡◌, refl, ◌∙◌, subst}
-use Prim.Native.Nat.{◌+◌, ◌-◌, ◌≤◌}
+use mathlib.Core.Path.{◌≡◌}
+use Prim.Native.Nat.{◌-◌, ◌≤◌}
 use lib.ListN.{length}
 use Rattle.mem.specs.Words.{words}
 use Rattle.compiler.specs.Tables.{FunsNoted}
-use Rattle.compiler.proofs.Filling.{funs-start, funs-step}
 use Rattle.compiler.proofs.tables.note_funs.Given as goal
 
 abbrev pub invariant-loop-f : goal.invariant-loop-f

@@ -1,4 +1,3 @@
-use borrow.Author.Rules.{rules}
 use Rattle.compiler.proofs.Funcs.{started}
 use Rattle.compiler.proofs.tables.note_start.Goals as goal
 

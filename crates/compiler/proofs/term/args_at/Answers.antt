@@ -1,4 +1,3 @@
-use borrow.Author.Rules.{rules}
 use mathlib.Core.Path.{sym, ◌∙◌}
 use Rattle.compiler.proofs.Loops.{args-con, args-fun, args_none}
 use Rattle.compiler.proofs.term.args_at.Goals as goal

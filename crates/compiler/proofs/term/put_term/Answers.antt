@@ -1,8 +1,6 @@
 use native.Mathlib.Omega.{arith}
-use Prim.Native.Nat.{◌≤◌}
 use Rattle.compiler.proofs.Writing.{progress_start, progress_step, progress-stop}
 use Rattle.compiler.proofs.Loops.{back_step, back_none, back-room, progress-long}
-use Rattle.compiler.specs.Rows.{Progress, back}
 use Rattle.compiler.proofs.term.put_term.Goals as goal
 
 pub loop-left-init : goal.loop-left-init

@@ -1,8 +1,5 @@
 use native.Mathlib.Omega.{arith}
-use Prim.Native.Nat.{◌-◌}
-use lib.ListN.{length}
-use Rattle.compiler.proofs.Terms.{Due, due-start, due-small, due-none, due-goes}
-use Rattle.compiler.specs.Here.{TermHere}
+use Rattle.compiler.proofs.Terms.{due-start, due-small, due-none, due-goes}
 use Rattle.compiler.proofs.term.term_size.Goals as goal
 
 pub loop-due-init : goal.loop-due-init

@@ -1,7 +1,6 @@
-use native.Mathlib.Omega.{arith}
 use Prim.Native.Nat.{◌-◌}
 use lib.ListN.{length}
-use Rattle.compiler.proofs.Terms.{Due, due-start, due-small, due-none, due-goes}
+use Rattle.compiler.proofs.Terms.{Due}
 use Rattle.compiler.specs.Here.{TermHere}
 use Rattle.compiler.proofs.term.term_size.Given as goal
 

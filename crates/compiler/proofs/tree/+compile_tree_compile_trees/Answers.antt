@@ -1,10 +1,7 @@
-use borrow.Author.Rules.{rules}
 use native.Mathlib.Omega.{arith}
 use mathlib.Core.Path.{refl}
-use lib.ListN.{length}
-use Prim.Native.Nat.{ℕ, ◌+◌, ◌*◌, ◌-◌, ◌<◌}
 use Rattle.compiler.proofs.Splits.{tree-inside, none_is, first-is, split-is}
-use Rattle.compiler.proofs.Children.{keeps-refl, tree-kept, Onward, onward-start, onward-end, onward-more, still, child-is}
+use Rattle.compiler.proofs.Children.{keeps-refl, tree-kept, onward-start, onward-end, onward-more, still, child-is}
 use Rattle.compiler.proofs.Writing.{emits-long}
 use Rattle.compiler.proofs.tree.+compile_tree_compile_trees.Goals as goal
 
@@ -36,7 +33,7 @@ pub compile_tree-bounds-lore-t-then-kind-eq4 : goal.compile_tree-bounds-lore-t-t
 compile_tree-bounds-lore-t-then-kind-eq4 t c = omega (arith, (first-is c.requires c.if-kind-eq4.true).type, c.wide-t.ensures, c.requires.told.long)
 
 pub compile_tree-put_front-body-requires : goal.compile_tree-put_front-body-requires
-compile_tree-put_front-body-requires t c = let h = (split-is c.requires c.wide-slot.result _ c.wide-t.result c.wide-c.result c.wide-m.result c.wide-slot.ensures refl c.wide-t.ensures c.wide-c.ensures c.wide-m.ensures c.if-kind-eq4.true) in ((c.requires.are.long, omega (arith, (first-is c.requires c.if-kind-eq4.true).slot, c.wide-slot.ensures)), ((c.requires.told.long, h.cons), h.room))
+compile_tree-put_front-body-requires t c = let h = (split-is c.requires c.wide-slot.result _ c.wide-t.result c.wide-c.result c.wide-m.result c.wide-slot.ensures refl c.wide-t.ensures c.wide-c.ensures c.wide-m.ensures c.if-kind-eq4.true) in record { rows_len = (c.requires.are.long, omega (arith, (first-is c.requires c.if-kind-eq4.true).slot, c.wide-slot.ensures)); lore_len = (c.requires.told.long, h.cons); lore_in_bounds = h.room }
 
 pub compile_tree-overflow_add-at-then-kind-eq4 : goal.compile_tree-overflow_add-at-then-kind-eq4
 compile_tree-overflow_add-at-then-kind-eq4 t c = omega (arith, (first-is c.requires c.if-kind-eq4.true).inside)
@@ -90,7 +87,7 @@ pub compile_trees-put_go-requires : goal.compile_trees-put_go-requires
 compile_trees-put_go-requires t c = (child-is c.loop-left.invariant c.requires c.wide-a.ensures c.loop-left-test.true).go-room
 
 pub compile_trees-grow-requires : goal.compile_trees-grow-requires
-compile_trees-grow-requires t c = (child-is c.loop-left.invariant c.requires c.wide-a.ensures c.loop-left-test.true).grows
+compile_trees-grow-requires t c = let g = (child-is c.loop-left.invariant c.requires c.wide-a.ensures c.loop-left-test.true).grows in record { rows_len = g.0; fact = g.1 }
 
 pub compile_trees-overflow_add-n : goal.compile_trees-overflow_add-n
 compile_trees-overflow_add-n t c = omega (arith, (child-is c.loop-left.invariant c.requires c.wide-a.ensures c.loop-left-test.true).grows.0.2)

@@ -1,11 +1,6 @@
-use borrow.Author.Rules.{rules}
-use native.Mathlib.Omega.{arith}
-use mathlib.Core.Path.{refl}
 use lib.ListN.{length}
-use Prim.Native.Nat.{ℕ, ◌+◌, ◌*◌, ◌-◌, ◌<◌}
-use Rattle.compiler.proofs.Splits.{tree-inside, none_is, first-is, split-is}
-use Rattle.compiler.proofs.Children.{keeps-refl, tree-kept, Onward, onward-start, onward-end, onward-more, still, child-is}
-use Rattle.compiler.proofs.Writing.{emits-long}
+use Prim.Native.Nat.{◌+◌, ◌*◌, ◌-◌}
+use Rattle.compiler.proofs.Children.{Onward}
 use Rattle.compiler.proofs.tree.+compile_tree_compile_trees.Given as goal
 
 abbrev pub decreases-compile_tree : goal.decreases-compile_tree

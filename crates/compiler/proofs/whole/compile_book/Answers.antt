@@ -1,4 +1,3 @@
-use borrow.Author.Rules.{rules}
 use native.Mathlib.Omega.{arith}
 use Rattle.compiler.proofs.Wholes.{few, cons-known, funcs-here, book-done}
 use Rattle.compiler.proofs.whole.compile_book.Goals as goal

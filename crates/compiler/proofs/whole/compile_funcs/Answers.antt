@@ -1,11 +1,7 @@
-use borrow.Author.Rules.{rules}
 use native.Mathlib.Omega.{arith}
-use mathlib.Core.Path.{◌≡◌, refl, sym, ◌∙◌}
-use Prim.Native.Nat.{◌+◌, ◌-◌}
-use lib.ListN.{length}
-use Rattle.mem.specs.Words.{words}
-use Rattle.compiler.specs.Here.{FuncsHere}
-use Rattle.compiler.proofs.Funcs.{Left, left-start, left_end, left-turns, part-all}
+use mathlib.Core.Path.{refl, sym, ◌∙◌}
+use Prim.Native.Nat.{◌+◌}
+use Rattle.compiler.proofs.Funcs.{left-start, left_end, left-turns, part-all}
 use Rattle.compiler.proofs.Loops.{progress-long}
 use Rattle.compiler.proofs.whole.compile_funcs.Goals as goal
 
@@ -25,7 +21,7 @@ pub note_start-requires : goal.note_start-requires
 note_start-requires c = (left-turns c.requires (c.loop-at.invariant.1 c.requires) c.wide-a.result c.wide-a.ensures c.loop-at-test.true).starting
 
 pub grow-requires : goal.grow-requires
-grow-requires c = (left-turns c.requires (c.loop-at.invariant.1 c.requires) c.wide-a.result c.wide-a.ensures c.loop-at-test.true).grows
+grow-requires c = let g = (left-turns c.requires (c.loop-at.invariant.1 c.requires) c.wide-a.result c.wide-a.ensures c.loop-at-test.true).grows in record { rows_len = g.0; fact = g.1 }
 
 pub slice_bounds-compile_tree-count : goal.slice_bounds-compile_tree-count
 slice_bounds-compile_tree-count c = omega (arith, (left-turns c.requires (c.loop-at.invariant.1 c.requires) c.wide-a.result c.wide-a.ensures c.loop-at-test.true).inside)

@@ -1,12 +1,9 @@
-use borrow.Author.Rules.{rules}
-use native.Mathlib.Omega.{arith}
-use mathlib.Core.Path.{◌≡◌, refl, sym, ◌∙◌}
-use Prim.Native.Nat.{◌+◌, ◌-◌}
+use mathlib.Core.Path.{◌≡◌}
+use Prim.Native.Nat.{◌-◌}
 use lib.ListN.{length}
 use Rattle.mem.specs.Words.{words}
 use Rattle.compiler.specs.Here.{FuncsHere}
-use Rattle.compiler.proofs.Funcs.{Left, left-start, left_end, left-turns, part-all}
-use Rattle.compiler.proofs.Loops.{progress-long}
+use Rattle.compiler.proofs.Funcs.{Left}
 use Rattle.compiler.proofs.whole.compile_funcs.Given as goal
 
 abbrev pub invariant-loop-at : goal.invariant-loop-at

@@ -1,4 +1,3 @@
-use borrow.Author.Rules.{rules}
 use Rattle.machine.proofs.calls.called.Goals as goal
 
 pub returns-in-Call : goal.returns-in-Call

@@ -1,6 +1,5 @@
 use Rattle.machine.proofs.Driving.{topped-empty, topped-other, topped-call}
 use native.Mathlib.Omega.{arith}
-use borrow.Author.Rules.{rules}
 use Rattle.machine.proofs.calls.on_top.Goals as goal
 
 pub returns-then-top-eq0 : goal.returns-then-top-eq0

@@ -1,5 +1,4 @@
-use Rattle.machine.proofs.Stacks.{Settling, settling-start, settling-empty, settling-out, settling-call, settling-past, settling-next}
-use borrow.Author.Rules.{rules}
+use Rattle.machine.proofs.Stacks.{settling-start, settling-empty, settling-out, settling-call, settling-past, settling-next}
 use native.Mathlib.Omega.{arith}
 use Rattle.machine.proofs.calls.settle.Goals as goal
 

@@ -1,6 +1,4 @@
-use Rattle.machine.proofs.Stacks.{Settling, settling-start, settling-empty, settling-out, settling-call, settling-past, settling-next}
-use borrow.Author.Rules.{rules}
-use native.Mathlib.Omega.{arith}
+use Rattle.machine.proofs.Stacks.{Settling}
 use Rattle.machine.proofs.calls.settle.Given as goal
 
 abbrev pub invariant-loop-left : goal.invariant-loop-left

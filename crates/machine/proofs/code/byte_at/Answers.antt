@@ -1,7 +1,6 @@
 use mathlib.Core.Path.{refl, sym}
 use lib.ListN.{get_or-eq_default}
 use native.Mathlib.Omega.{arith}
-use borrow.Author.Rules.{rules}
 use Rattle.machine.proofs.code.byte_at.Goals as goal
 
 pub returns-then-i-code : goal.returns-then-i-code

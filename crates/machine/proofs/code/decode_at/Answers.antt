@@ -1,7 +1,6 @@
 use Rattle.machine.proofs.Codes.{outside}
 use Rattle.machine.proofs.Codes.{op-load, op-load-all, op-branch, op-go, op-push, op-pop, op-anon, op-store, op-var, op-term, op-replace, op-narrow, op-choice, op-fail, op-wrong}
 use native.Mathlib.Omega.{arith}
-use borrow.Author.Rules.{rules}
 use Rattle.machine.proofs.code.decode_at.Goals as goal
 
 pub returns-then-b-lt8 : goal.returns-then-b-lt8

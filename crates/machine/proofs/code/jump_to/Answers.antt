@@ -1,5 +1,4 @@
 use Rattle.machine.proofs.Codes.{jump-is}
-use borrow.Author.Rules.{rules}
 use Rattle.machine.proofs.code.jump_to.Goals as goal
 
 pub returns : goal.returns

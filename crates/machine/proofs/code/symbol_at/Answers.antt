@@ -1,5 +1,4 @@
 use Rattle.machine.proofs.Codes.{symbol-con, symbol-fun}
-use borrow.Author.Rules.{rules}
 use Rattle.machine.proofs.code.symbol_at.Goals as goal
 
 pub returns-then-kind-eq0 : goal.returns-then-kind-eq0

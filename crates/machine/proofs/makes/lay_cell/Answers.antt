@@ -1,9 +1,6 @@
 use Rattle.machine.proofs.Making.{length-top, lay-word, laid-is}
-use Rattle.machine.specs.View.{pre_terms}
-use Rattle.store.proofs.Laying.{Laying, lay-start, lay-room, lay_step}
-use lib.ListN.{length, take}
-use mathlib.Core.Path.{◌≡◌, refl, sym, ◌∙◌}
-use Prim.Native.Nat.{◌≤◌, ◌-◌}
+use Rattle.store.proofs.Laying.{lay-start, lay-room, lay_step}
+use mathlib.Core.Path.{refl, ◌∙◌}
 use native.Mathlib.Omega.{arith}
 use Rattle.machine.proofs.makes.lay_cell.Goals as goal
 

@@ -1,10 +1,8 @@
-use Rattle.machine.proofs.Making.{length-top, lay-word, laid-is}
 use Rattle.machine.specs.View.{pre_terms}
-use Rattle.store.proofs.Laying.{Laying, lay-start, lay-room, lay_step}
+use Rattle.store.proofs.Laying.{Laying}
 use lib.ListN.{length, take}
-use mathlib.Core.Path.{◌≡◌, refl, sym, ◌∙◌}
+use mathlib.Core.Path.{◌≡◌}
 use Prim.Native.Nat.{◌≤◌, ◌-◌}
-use native.Mathlib.Omega.{arith}
 use Rattle.machine.proofs.makes.lay_cell.Given as goal
 
 abbrev pub invariant-loop-j : goal.invariant-loop-j

@@ -1,6 +1,5 @@
 use Rattle.machine.proofs.Making.{anon-full, anon-is}
 use native.Mathlib.Omega.{arith}
-use borrow.Author.Rules.{rules}
 use Rattle.machine.proofs.makes.make_anon.Goals as goal
 
 pub returns-then-regs-limit : goal.returns-then-regs-limit

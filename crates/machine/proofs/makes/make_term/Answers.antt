@@ -1,6 +1,5 @@
 use Rattle.machine.proofs.Making.{term-many, term-lost, term-full, term_is}
 use native.Mathlib.Omega.{arith}
-use borrow.Author.Rules.{rules}
 use Rattle.machine.proofs.makes.make_term.Goals as goal
 
 pub returns-then-n-gt8 : goal.returns-then-n-gt8

@@ -1,6 +1,5 @@
 use Rattle.machine.proofs.Making.{var-lost, var-is}
 use native.Mathlib.Omega.{arith}
-use borrow.Author.Rules.{rules}
 use Rattle.machine.proofs.makes.make_var.Goals as goal
 
 pub returns-then-at-regs : goal.returns-then-at-regs

@@ -1,6 +1,5 @@
 use Rattle.machine.proofs.Execs.{refused, passed}
 use Rattle.machine.proofs.Making.{push-lost, push-is}
-use borrow.Author.Rules.{rules}
 use Rattle.machine.proofs.makes.push.Goals as goal
 
 pub returns-then-not-regs : goal.returns-then-not-regs

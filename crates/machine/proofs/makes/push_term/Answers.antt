@@ -1,6 +1,5 @@
 use Rattle.machine.proofs.Making.{push-full, push_goes}
 use native.Mathlib.Omega.{arith}
-use borrow.Author.Rules.{rules}
 use Rattle.machine.proofs.makes.push_term.Goals as goal
 
 pub returns-then-regs-ge320 : goal.returns-then-regs-ge320

@@ -1,6 +1,5 @@
 use Rattle.machine.proofs.Making.{store-lost, store-full, store_is, set_new, set_there}
 use native.Mathlib.Omega.{arith}
-use borrow.Author.Rules.{rules}
 use Rattle.machine.proofs.makes.store_var.Goals as goal
 
 pub returns-then-at-regs : goal.returns-then-at-regs

@@ -1,5 +1,4 @@
 use Rattle.store.proofs.Laws.{count_of}
-use borrow.Author.Rules.{rules}
 use Rattle.machine.proofs.ops.args_of.Goals as goal
 
 pub returns-in-Var : goal.returns-in-Var

@@ -1,6 +1,5 @@
 use Rattle.machine.proofs.Execs.{refused, passed}
 use Rattle.machine.proofs.Runs.{branch-lost, branch-call, branch-con, branch-misfit, branch-var, branch-fwd}
-use borrow.Author.Rules.{rules}
 use Rattle.machine.proofs.ops.branch.Goals as goal
 
 pub returns-then-not-regs : goal.returns-then-not-regs

@@ -1,13 +1,14 @@
 use Rattle.machine.proofs.Walking.{child-none, child-in, child-some}
 use native.Mathlib.Omega.{arith}
-use borrow.Author.Rules.{rules}
 use Rattle.machine.proofs.ops.child.Goals as goal
 
 pub returns-then-j-count : goal.returns-then-j-count
 returns-then-j-count c = child-none _ _ _ _ _ _ _ _ c.follow-at.ensures c.node_at-k.ensures c.args_of-count.ensures c.before-j.ensures c.if-j-count.true
 
 pub arg-requires : goal.arg-requires
-arg-requires c = (c.requires, child-in _ _ _ _ _ _ _ _ c.follow-at.ensures c.node_at-k.ensures c.args_of-count.ensures c.before-j.ensures (omega arith))
+arg-requires c =
+    let i = child-in _ _ _ _ _ _ _ _ c.follow-at.ensures c.node_at-k.ensures c.args_of-count.ensures c.before-j.ensures (omega arith) in
+    record { room = c.requires; n_lt_limit = i.0; j_in_bounds = i.1 }
 
 pub returns : goal.returns
 returns c = child-some _ _ _ _ _ _ _ _ c.follow-at.ensures c.node_at-k.ensures c.args_of-count.ensures c.before-j.ensures _ (omega arith) c.arg.ensures

@@ -1,6 +1,5 @@
 use Rattle.machine.proofs.Runs.{choice-empty, choice-is}
 use native.Mathlib.Omega.{arith}
-use borrow.Author.Rules.{rules}
 use Rattle.machine.proofs.ops.choice.Goals as goal
 
 pub returns-then-regs-eq0 : goal.returns-then-regs-eq0

@@ -1,6 +1,5 @@
 use Rattle.machine.proofs.Runs.{load-empty, load-lost, load_found}
 use native.Mathlib.Omega.{arith}
-use borrow.Author.Rules.{rules}
 use Rattle.machine.proofs.ops.load.Goals as goal
 
 pub returns-then-regs-eq0 : goal.returns-then-regs-eq0

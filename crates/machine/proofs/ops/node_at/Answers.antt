@@ -1,5 +1,4 @@
 use Rattle.machine.proofs.Walking.{var-past}
-use borrow.Author.Rules.{rules}
 use Rattle.machine.proofs.ops.node_at.Goals as goal
 
 pub returns-then-n-limit : goal.returns-then-n-limit

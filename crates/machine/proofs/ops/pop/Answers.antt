@@ -1,6 +1,5 @@
 use Rattle.machine.proofs.Runs.{pop-empty, pop-is}
 use native.Mathlib.Omega.{arith}
-use borrow.Author.Rules.{rules}
 use Rattle.machine.proofs.ops.pop.Goals as goal
 
 pub returns-then-regs-eq0 : goal.returns-then-regs-eq0

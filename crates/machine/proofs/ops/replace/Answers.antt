@@ -1,7 +1,6 @@
 use Rattle.machine.proofs.Execs.{refused, passed}
 use Rattle.machine.proofs.Runs.{replace-empty, replace-lost, replace-is}
 use native.Mathlib.Omega.{arith}
-use borrow.Author.Rules.{rules}
 use Rattle.machine.proofs.ops.replace.Goals as goal
 
 pub returns-then-regs-eq0 : goal.returns-then-regs-eq0

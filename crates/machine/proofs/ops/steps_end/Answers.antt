@@ -1,6 +1,5 @@
 use Rattle.machine.proofs.Walking.{end-there, end-cut}
 use native.Mathlib.Omega.{arith}
-use borrow.Author.Rules.{rules}
 use Rattle.machine.proofs.ops.steps_end.Goals as goal
 
 pub returns-then-end-code : goal.returns-then-end-code

@@ -1,11 +1,7 @@
 use Rattle.machine.proofs.Walking.{at-step, at-stuck, at-end}
 use Rattle.machine.specs.View.{cur_of}
-use Rattle.store.specs.Regions.{graph_of}
 use Rattle.engine.specs.Machine.{at}
-use lib.ListN.{length, take, drop}
-use mathlib.Core.Path.{◌≡◌, ap, sym, ◌∙◌}
-use Prim.Native.Nat.{◌≤◌, ◌-◌}
-use borrow.Author.Rules.{rules}
+use mathlib.Core.Path.{ap, sym, ◌∙◌}
 use native.Mathlib.Omega.{arith}
 use Rattle.machine.proofs.ops.walk.Goals as goal
 

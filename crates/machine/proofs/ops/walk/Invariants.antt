@@ -1,12 +1,8 @@
-use Rattle.machine.proofs.Walking.{at-step, at-stuck, at-end}
-use Rattle.machine.specs.View.{cur_of}
 use Rattle.store.specs.Regions.{graph_of}
 use Rattle.engine.specs.Machine.{at}
 use lib.ListN.{length, take, drop}
-use mathlib.Core.Path.{◌≡◌, ap, sym, ◌∙◌}
+use mathlib.Core.Path.{◌≡◌}
 use Prim.Native.Nat.{◌≤◌, ◌-◌}
-use borrow.Author.Rules.{rules}
-use native.Mathlib.Omega.{arith}
 use Rattle.machine.proofs.ops.walk.Given as goal
 
 abbrev pub invariant-loop-i : goal.invariant-loop-i

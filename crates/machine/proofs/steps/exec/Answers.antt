@@ -1,4 +1,4 @@
-use Rattle.machine.proofs.Execs.{Along, along-start, along-out, along-on, along-ends, refused, passed}
+use Rattle.machine.proofs.Execs.{along-start, along-out, along-on, along-ends}
 use mathlib.Core.Path.{◌∙◌}
 use native.Mathlib.Omega.{arith}
 use Rattle.machine.proofs.steps.exec.Goals as goal
@@ -13,7 +13,7 @@ pub shape_of-s-then-not-goes : goal.shape_of-s-then-not-goes
 shape_of-s-then-not-goes c = c.step-a.auto.s ∙ c.loop-left.invariant.long
 
 pub returns-then-not-goes : goal.returns-then-not-goes
-returns-then-not-goes c = along-ends c.loop-left.invariant (omega arith) c.step-a.ensures (refused _ c.if-not-goes.true)
+returns-then-not-goes c = along-ends c.loop-left.invariant (omega arith) c.step-a.ensures c.if-not-goes.true
 
 pub overflow_sub-left : goal.overflow_sub-left
 overflow_sub-left c = omega arith
@@ -22,7 +22,7 @@ pub loop-left-smaller : goal.loop-left-smaller
 loop-left-smaller c = omega arith
 
 pub loop-left-preserved : goal.loop-left-preserved
-loop-left-preserved c = along-on c.loop-left.invariant (omega arith) c.step-a.ensures (passed _ c.if-not-goes.false) c.step-a.auto.s
+loop-left-preserved c = along-on c.loop-left.invariant (omega arith) c.step-a.ensures c.if-not-goes.false c.step-a.auto.s
 
 pub shape_of-s : goal.shape_of-s
 shape_of-s c = c.loop-left.invariant.long

@@ -1,6 +1,4 @@
-use Rattle.machine.proofs.Execs.{Along, along-start, along-out, along-on, along-ends, refused, passed}
-use mathlib.Core.Path.{◌∙◌}
-use native.Mathlib.Omega.{arith}
+use Rattle.machine.proofs.Execs.{Along}
 use Rattle.machine.proofs.steps.exec.Given as goal
 
 abbrev pub invariant-loop-left : goal.invariant-loop-left

@@ -1,7 +1,6 @@
 use Rattle.machine.proofs.Runs.{go-is, fail-is, wrong-is}
 use Rattle.machine.proofs.Execs.{as-op}
 use Rattle.machine.specs.View.{op_of}
-use borrow.Author.Rules.{rules}
 use Rattle.machine.proofs.steps.run_op.Goals as goal
 
 pub returns-in-Load : goal.returns-in-Load

@@ -1,6 +1,5 @@
 use Rattle.machine.proofs.Execs.{width_small, step_past, step_is}
 use native.Mathlib.Omega.{arith}
-use borrow.Author.Rules.{rules}
 use Rattle.machine.proofs.steps.step.Goals as goal
 
 pub returns-then-at-code : goal.returns-then-at-code

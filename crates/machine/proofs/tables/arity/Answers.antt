@@ -1,6 +1,5 @@
 use Rattle.machine.proofs.Walking.{arity-con, arity-fun}
 use native.Mathlib.Omega.{arith}
-use borrow.Author.Rules.{rules}
 use Rattle.machine.proofs.tables.arity.Goals as goal
 
 pub returns-in-Makes : goal.returns-in-Makes

@@ -1,6 +1,5 @@
 use Rattle.machine.proofs.Walking.{arm-none, arm-some}
 use native.Mathlib.Omega.{arith}
-use borrow.Author.Rules.{rules}
 use Rattle.machine.proofs.tables.arm_of.Goals as goal
 
 pub returns-then-home-t : goal.returns-then-home-t

@@ -1,6 +1,5 @@
 use Rattle.machine.proofs.Walking.{start_is}
 use native.Mathlib.Omega.{arith}
-use borrow.Author.Rules.{rules}
 use Rattle.machine.proofs.tables.start_of.Goals as goal
 
 pub returns : goal.returns

@@ -1,8 +1,6 @@
 use native.Mathlib.Omega.{arith}
-use Prim.Native.Nat.{◌-◌, ◌≤◌}
-use mathlib.Core.Path.{◌≡◌, refl, ◌∙◌}
-use lib.ListN.{length}
-use Rattle.rounds.proofs.Zeros.{Clearing, clearing-none, clearing-more, clearing-all}
+use mathlib.Core.Path.{refl, ◌∙◌}
+use Rattle.rounds.proofs.Zeros.{clearing-none, clearing-more, clearing-all}
 use Rattle.rounds.proofs.fresh.clear.Goals as goal
 
 pub loop-k-init : goal.loop-k-init

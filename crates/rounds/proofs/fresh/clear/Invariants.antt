@@ -1,8 +1,7 @@
-use native.Mathlib.Omega.{arith}
 use Prim.Native.Nat.{◌-◌, ◌≤◌}
-use mathlib.Core.Path.{◌≡◌, refl, ◌∙◌}
+use mathlib.Core.Path.{◌≡◌}
 use lib.ListN.{length}
-use Rattle.rounds.proofs.Zeros.{Clearing, clearing-none, clearing-more, clearing-all}
+use Rattle.rounds.proofs.Zeros.{Clearing}
 use Rattle.rounds.proofs.fresh.clear.Given as goal
 
 abbrev pub invariant-loop-k : goal.invariant-loop-k

@@ -1,8 +1,5 @@
 use native.Mathlib.Omega.{arith}
-use Prim.Native.Nat.{◌-◌, ◌≤◌}
-use mathlib.Core.Path.{◌≡◌, refl, ◌∙◌}
-use lib.ListN.{length}
-use Rattle.rounds.specs.Around.{Joined}
+use mathlib.Core.Path.{refl, ◌∙◌}
 use Rattle.rounds.proofs.Joining.{joined-none, joined-more, joined-all}
 use Rattle.rounds.proofs.joins.push_all.Goals as goal
 

@@ -1,9 +1,7 @@
-use native.Mathlib.Omega.{arith}
 use Prim.Native.Nat.{◌-◌, ◌≤◌}
-use mathlib.Core.Path.{◌≡◌, refl, ◌∙◌}
+use mathlib.Core.Path.{◌≡◌}
 use lib.ListN.{length}
 use Rattle.rounds.specs.Around.{Joined}
-use Rattle.rounds.proofs.Joining.{joined-none, joined-more, joined-all}
 use Rattle.rounds.proofs.joins.push_all.Given as goal
 
 abbrev pub invariant-loop-i : goal.invariant-loop-i

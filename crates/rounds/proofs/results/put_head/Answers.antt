@@ -1,7 +1,6 @@
 use native.Mathlib.Omega.{arith}
 use lib.ListN.{length-set}
 use Rattle.rounds.proofs.Records.{headed-is}
-use borrow.Author.Rules.{rules}
 use Rattle.rounds.proofs.results.put_head.Goals as goal
 
 pub bounds-out-at-2 : goal.bounds-out-at-2

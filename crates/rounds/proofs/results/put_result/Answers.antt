@@ -1,9 +1,7 @@
-use Rattle.rounds.proofs.Records.{over-is, fits-is, result-none, clean-framed, reads-framed, terms-framed, terms-fit, terms-lent, terms-sum, result-put}
-use mathlib.Core.Path.{refl, ap, sym, ◌∙◌}
-use lib.ListN.{length}
+use Rattle.rounds.proofs.Records.{over-is, result-none, clean-framed, reads-framed, terms-framed, terms-fit, terms-lent, terms-sum, result-put}
+use mathlib.Core.Path.{sym, ◌∙◌}
 use native.Mathlib.Omega.{arith}
 use Rattle.writer.proofs.Turning.{kept-none, room-kept}
-use borrow.Author.Rules.{rules}
 use Rattle.rounds.proofs.results.put_result.Goals as goal
 
 pub returns-then-room-at-lt5 : goal.returns-then-room-at-lt5

@@ -1,6 +1,5 @@
 use mathlib.Core.Path.{sym, ◌∙◌}
 use Rattle.run.proofs.Ranges.{range-facts, fit-first, fit-second}
-use borrow.Author.Rules.{rules}
 use Rattle.run.proofs.bounds.fit.Goals as goal
 
 pub long_enough-requires : goal.long_enough-requires

@@ -1,5 +1,4 @@
 use native.Mathlib.Omega.{arith}
-use borrow.Author.Rules.{rules}
 use Rattle.run.proofs.Ranges.{lent-yes, lent-no}
 use Rattle.run.proofs.bounds.long_enough.Goals as goal
 

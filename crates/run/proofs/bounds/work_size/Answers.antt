@@ -1,5 +1,4 @@
 use mathlib.Core.Path.{sym}
-use borrow.Author.Rules.{rules}
 use Rattle.run.proofs.Ranges.{size_is}
 use Rattle.run.proofs.bounds.work_size.Goals as goal
 

@@ -1,10 +1,6 @@
 use native.Mathlib.Omega.{arith}
-use borrow.Author.Rules.{rules}
-use Prim.Native.Nat.{◌≤◌}
-use mathlib.Core.Path.{◌≡◌, refl, ◌∙◌}
-use lib.ListN.{length}
-use Rattle.run.specs.Given.{limits_of}
-use Rattle.run.proofs.Looping.{Going, going_start, going-past, going_done, going-never}
+use mathlib.Core.Path.{refl, ◌∙◌}
+use Rattle.run.proofs.Looping.{going_start, going-past, going_done, going-never}
 use Rattle.run.proofs.loops.run_from.Goals as goal
 
 pub overflow_add-left : goal.overflow_add-left

@@ -1,4 +1,3 @@
-use borrow.Author.Rules.{rules}
 use native.Mathlib.Omega.{arith}
 use Rattle.run.proofs.Prepared.{book-read, ended-none, ended_at}
 use Rattle.run.proofs.setup.end_at_counts.Goals as goal

@@ -1,4 +1,3 @@
-use borrow.Author.Rules.{rules}
 use Rattle.run.proofs.Prepared.{tables-within, tables-room, ending-room, does-fit, set-fits, set_long, set-fault}
 use Rattle.run.proofs.setup.set_up.Goals as goal
 

@@ -1,6 +1,5 @@
 use native.Mathlib.Omega.{arith}
 use Rattle.run.proofs.Arming.{spread_none, spread-all}
-use borrow.Author.Rules.{rules}
 use Rattle.run.proofs.steps.spread.Goals as goal
 
 pub returns-then-l-waiting : goal.returns-then-l-waiting

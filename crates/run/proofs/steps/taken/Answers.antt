@@ -1,5 +1,4 @@
 use Rattle.run.proofs.Arming.{taken_is}
-use borrow.Author.Rules.{rules}
 use Rattle.run.proofs.steps.taken.Goals as goal
 
 pub returns : goal.returns

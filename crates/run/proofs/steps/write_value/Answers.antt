@@ -1,8 +1,6 @@
 use Rattle.pool.specs.Ring.{roots_of}
-use native.Mathlib.Omega.{arith}
 use Rattle.alternatives.proofs.Rounds.{refused, passed}
 use Rattle.run.proofs.Arming.{value_none, value-all}
-use borrow.Author.Rules.{rules}
 use Rattle.run.proofs.steps.write_value.Goals as goal
 
 pub put_result-p-requires : goal.put_result-p-requires

@@ -1,6 +1,5 @@
 use native.Mathlib.Omega.{arith}
 use Rattle.run.proofs.Filling.{ended-all}
-use borrow.Author.Rules.{rules}
 use Rattle.run.proofs.tables.end_tables.Goals as goal
 
 pub fill-requires-2 : goal.fill-requires-2

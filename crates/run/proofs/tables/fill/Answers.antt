@@ -1,8 +1,5 @@
 use native.Mathlib.Omega.{arith}
-use Prim.Native.Nat.{◌-◌, ◌≤◌}
-use mathlib.Core.Path.{◌≡◌, refl, ◌∙◌, subst}
-use lib.ListN.{length}
-use Rattle.run.specs.Filled.{WordsFilled}
+use mathlib.Core.Path.{refl, ◌∙◌}
 use Rattle.run.proofs.Filling.{filled_none, filled_more, filled-all}
 use Rattle.run.proofs.tables.fill.Goals as goal
 

@@ -1,9 +1,7 @@
-use native.Mathlib.Omega.{arith}
 use Prim.Native.Nat.{◌-◌, ◌≤◌}
-use mathlib.Core.Path.{◌≡◌, refl, ◌∙◌, subst}
+use mathlib.Core.Path.{◌≡◌}
 use lib.ListN.{length}
 use Rattle.run.specs.Filled.{WordsFilled}
-use Rattle.run.proofs.Filling.{filled_none, filled_more, filled-all}
 use Rattle.run.proofs.tables.fill.Given as goal
 
 abbrev pub invariant-loop-k : goal.invariant-loop-k

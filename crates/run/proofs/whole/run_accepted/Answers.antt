@@ -1,6 +1,5 @@
 use mathlib.Core.Path.{sym}
 use lib.Seq.{length-take-le}
-use borrow.Author.Rules.{rules}
 use Rattle.run.proofs.Outcomes.{lends, code-there, roomy, code-short, asks, gives-asked, gives-long, gives-never}
 use Rattle.run.proofs.whole.run_accepted.Goals as goal
 

@@ -3,7 +3,6 @@ use mathlib.Core.Path.{refl, ap, ◌∙◌}
 use mathlib.Core.Logic.{inl, inr}
 use Rattle.store.specs.Regions.{Memory}
 use Rattle.turns.proofs.Begins.{true-false, false-true, standing-search, begins-stack, begins-without, begins-settled, begins-none, begins-inside, begins-first, begins-links, begins-marks, begins-finished, begins-searched, silent-graph, silent-links, silent-marks, silent-finished, silent-searched}
-use borrow.Author.Rules.{rules}
 use Rattle.turns.proofs.calls.begin.Goals as goal
 
 pub returns-then-top-gt0 : goal.returns-then-top-gt0

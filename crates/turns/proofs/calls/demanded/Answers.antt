@@ -1,6 +1,5 @@
-use mathlib.Core.Path.{refl, ap, sym, ◌∙◌}
+use mathlib.Core.Path.{ap, sym}
 use Rattle.machine.specs.View.{demand_of}
-use borrow.Author.Rules.{rules}
 use Rattle.turns.proofs.calls.demanded.Goals as goal
 
 pub returns-in-Demand : goal.returns-in-Demand

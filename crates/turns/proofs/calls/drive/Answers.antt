@@ -1,11 +1,7 @@
 use native.Mathlib.Omega.{arith}
 use borrow.Author.Rules.{rules}
-use Prim.Native.Nat.{◌≤◌, ◌-◌}
-use mathlib.Core.Path.{◌≡◌, refl, ap, sym, ◌∙◌}
-use lib.ListN.{length}
-use Rattle.machine.specs.Contract.{Kept}
-use Rattle.turns.specs.Calls.{Calls}
-use Rattle.turns.proofs.Driving.{Driving, driving-start, driving-ends, driving-hit, driving-links, driving-deep, driving-inside, driving-next, driving-kept, driving-over, kept-none, kept_then}
+use mathlib.Core.Path.{refl, sym, ◌∙◌}
+use Rattle.turns.proofs.Driving.{driving-start, driving-ends, driving-hit, driving-links, driving-deep, driving-inside, driving-next, driving-kept, driving-over, kept-none, kept_then}
 use Rattle.turns.proofs.calls.drive.Goals as goal
 
 pub loop-left-init : goal.loop-left-init

@@ -1,11 +1,9 @@
-use native.Mathlib.Omega.{arith}
-use borrow.Author.Rules.{rules}
-use Prim.Native.Nat.{◌≤◌, ◌-◌}
-use mathlib.Core.Path.{◌≡◌, refl, ap, sym, ◌∙◌}
+use Prim.Native.Nat.{◌≤◌}
+use mathlib.Core.Path.{◌≡◌}
 use lib.ListN.{length}
 use Rattle.machine.specs.Contract.{Kept}
 use Rattle.turns.specs.Calls.{Calls}
-use Rattle.turns.proofs.Driving.{Driving, driving-start, driving-ends, driving-hit, driving-links, driving-deep, driving-inside, driving-next, driving-kept, driving-over, kept-none, kept_then}
+use Rattle.turns.proofs.Driving.{Driving}
 use Rattle.turns.proofs.calls.drive.Given as goal
 
 abbrev pub invariant-loop-left : goal.invariant-loop-left

@@ -1,5 +1,4 @@
 use Rattle.turns.proofs.Finishing.{capped-all, capped_same}
-use borrow.Author.Rules.{rules}
 use Rattle.turns.proofs.ends.capped.Goals as goal
 
 pub returns-then-made-limit : goal.returns-then-made-limit

@@ -1,12 +1,7 @@
 use Rattle.writer.proofs.EachTerm.{read-now, size-on, size-all, nine}
 use Rattle.writer.proofs.Counting.{fits-over, fits_in}
 use Rattle.writer.proofs.Turning.{framed-none, framed_then, room-kept}
-use Rattle.writer.specs.Walk.{Framed}
-use Rattle.store.specs.Regions.{graph_of}
-use Rattle.heap.specs.Graph.{write_each}
-use lib.ListN.{length, take, drop}
-use mathlib.Core.Path.{◌≡◌, refl, ◌∙◌}
-use Prim.Native.Nat.{◌+◌, ◌-◌, ◌≤◌}
+use mathlib.Core.Path.{refl, ◌∙◌}
 use native.Mathlib.Omega.{arith}
 use borrow.Author.Rules.{rules}
 use Rattle.writer.proofs.sizes.size.Goals as goal

@@ -1,14 +1,9 @@
-use Rattle.writer.proofs.EachTerm.{read-now, size-on, size-all, nine}
-use Rattle.writer.proofs.Counting.{fits-over, fits_in}
-use Rattle.writer.proofs.Turning.{framed-none, framed_then, room-kept}
 use Rattle.writer.specs.Walk.{Framed}
 use Rattle.store.specs.Regions.{graph_of}
 use Rattle.heap.specs.Graph.{write_each}
 use lib.ListN.{length, take, drop}
-use mathlib.Core.Path.{◌≡◌, refl, ◌∙◌}
+use mathlib.Core.Path.{◌≡◌}
 use Prim.Native.Nat.{◌+◌, ◌-◌, ◌≤◌}
-use native.Mathlib.Omega.{arith}
-use borrow.Author.Rules.{rules}
 use Rattle.writer.proofs.sizes.size.Given as goal
 
 abbrev pub invariant-loop-i : goal.invariant-loop-i

@@ -1,22 +1,12 @@
--- what the step left
-use Rattle.writer.proofs.Counting.{Onward, onward-at, step-ready, weigh-small, dues-none}
+use Rattle.writer.proofs.Counting.{onward-at, step-ready, weigh-small, dues-none}
 use Rattle.writer.proofs.Turning.{framed-none, framed_then}
-use Rattle.writer.specs.Owes.{dues, steps}
-use Rattle.writer.specs.Walk.{Stood, Framed}
-use Rattle.store.specs.Regions.{graph_of, frames_of, stack}
-use lib.ListN.{length}
-use mathlib.Core.Path.{◌≡◌, refl, ◌∙◌}
-use Prim.Native.Nat.{◌+◌, ◌-◌, ◌*◌, ◌≤◌}
+use Rattle.store.specs.Regions.{graph_of, frames_of}
+use mathlib.Core.Path.{refl, ◌∙◌}
 use native.Mathlib.Omega.{arith}
-use borrow.Author.Rules.{rules}
 use Rattle.writer.proofs.sizes.tally.Goals as goal
 
-module _ (c : tie.After-weight invariant-loop decreases-loop) where
-  abbrev on : Onward c.before.before.before.before.before.before.before.before.before.args.limit (graph_of c.before.before.before.before.before.before.before.before.before.args.limit c.before.before.before.before.before.before.before.before.before.args.s.now) c.before.before.before.before.before.before.before.loop.s c.before.before.before.step.new.0 (stack c.before.before.before.before.before.before.before.loop.d (frames_of c.before.before.before.before.before.before.before.before.before.args.limit c.before.before.before.before.before.before.before.loop.s)) c.before.before.before.step.result
-  on = onward-at _ _ _ _ c.before.before.before.before.before.before.loop-test.true c.before.before.before.before.before.before.before.before.before.requires.0 c.before.before.before.before.before.before.before.loop.invariant.0.kept c.before.before.before.before.before.before.before.loop.invariant.1 _ _ c.before.before.before.step.ensures
-
 pub loop-d-init : goal.loop-d-init
-loop-d-init c = (framed-none _ _, c.requires.Stood, refl, c.requires.room_bound.1, refl)
+loop-d-init c = (framed-none _ _, c.requires.stood, refl, c.requires.room_bound.1, refl)
 
 pub shape_of-s-then-n-room : goal.shape_of-s-then-n-room
 shape_of-s-then-n-room c = c.loop-d.invariant.4
@@ -28,16 +18,18 @@ pub overflow_sub-d : goal.overflow_sub-d
 overflow_sub-d c = omega arith
 
 pub step-t-requires : goal.step-t-requires
-step-t-requires c = step-ready _ _ _ _ c.loop-d-test.true c.requires.room c.loop-d.invariant.0.kept c.loop-d.invariant.1
+step-t-requires c = let r = step-ready _ _ _ _ c.loop-d-test.true c.requires.room c.loop-d.invariant.0.kept c.loop-d.invariant.1 in record { room = r.0; stood = r.1.0; e_lt_limit = r.1.1 }
 
 pub overflow_add-n : goal.overflow_add-n
 overflow_add-n c = omega (arith, weigh-small c.step-t.result.met, c.weight-n.ensures)
 
 pub loop-d-smaller : goal.loop-d-smaller
-loop-d-smaller c = omega (arith, weigh-small c.step-t.result.met, c.weight-n.ensures, (on c).falls)
+loop-d-smaller c = let o = onward-at _ _ _ _ c.loop-d-test.true c.requires.room c.loop-d.invariant.0.kept c.loop-d.invariant.1 _ _ c.step-t.ensures in omega (arith, weigh-small c.step-t.result.met, c.weight-n.ensures, o.falls)
 
 pub loop-d-preserved : goal.loop-d-preserved
-loop-d-preserved c = let i = c.loop-d.invariant in (framed_then i.0 c.step-t.ensures.framed, (on c).stands, omega (arith, i.2, (on c).counts, c.weight-n.ensures), omega (arith, weigh-small c.step-t.result.met, c.weight-n.ensures), c.step-t.auto.s ∙ i.4)
+loop-d-preserved c = let i = c.loop-d.invariant in
+    let o = onward-at _ _ _ _ c.loop-d-test.true c.requires.room c.loop-d.invariant.0.kept c.loop-d.invariant.1 _ _ c.step-t.ensures in
+    (framed_then i.0 c.step-t.ensures.framed, o.stands, omega (arith, i.2, o.counts, c.weight-n.ensures), omega (arith, weigh-small c.step-t.result.met, c.weight-n.ensures), c.step-t.auto.s ∙ i.4)
 
 pub shape_of-s : goal.shape_of-s
 shape_of-s c = c.loop-d.invariant.4

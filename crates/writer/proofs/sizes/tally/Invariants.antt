@@ -1,13 +1,9 @@
-use Rattle.writer.proofs.Counting.{Onward, onward-at, step-ready, weigh-small, dues-none}
-use Rattle.writer.proofs.Turning.{framed-none, framed_then}
 use Rattle.writer.specs.Owes.{dues, steps}
 use Rattle.writer.specs.Walk.{Stood, Framed}
 use Rattle.store.specs.Regions.{graph_of, frames_of, stack}
 use lib.ListN.{length}
-use mathlib.Core.Path.{◌≡◌, refl, ◌∙◌}
+use mathlib.Core.Path.{◌≡◌}
 use Prim.Native.Nat.{◌+◌, ◌-◌, ◌*◌, ◌≤◌}
-use native.Mathlib.Omega.{arith}
-use borrow.Author.Rules.{rules}
 use Rattle.writer.proofs.sizes.tally.Given as goal
 
 abbrev pub invariant-loop-d : goal.invariant-loop-d

@@ -1,11 +1,6 @@
-use Rattle.writer.proofs.Draining.{Clears, clear-start, clear-low, clear-again, clear-done, kept-place}
+use Rattle.writer.proofs.Draining.{clear-start, clear-low, clear-again, clear-done, kept-place}
 use Rattle.writer.proofs.Turning.{kept-none, kept_then, room-kept}
-use Rattle.writer.specs.Written.{seen_of}
-use Rattle.writer.specs.Walk.{Kept}
-use Rattle.store.specs.Regions.{list_of}
-use lib.ListN.{length, drop}
-use mathlib.Core.Path.{◌≡◌, refl, ◌∙◌}
-use Prim.Native.Nat.{◌-◌, ◌≤◌}
+use mathlib.Core.Path.{refl, ◌∙◌}
 use native.Mathlib.Omega.{arith}
 use Rattle.writer.proofs.terms.clear.Goals as goal
 

@@ -1,12 +1,10 @@
-use Rattle.writer.proofs.Draining.{Clears, clear-start, clear-low, clear-again, clear-done, kept-place}
-use Rattle.writer.proofs.Turning.{kept-none, kept_then, room-kept}
+use Rattle.writer.proofs.Draining.{Clears}
 use Rattle.writer.specs.Written.{seen_of}
 use Rattle.writer.specs.Walk.{Kept}
 use Rattle.store.specs.Regions.{list_of}
 use lib.ListN.{length, drop}
-use mathlib.Core.Path.{◌≡◌, refl, ◌∙◌}
+use mathlib.Core.Path.{◌≡◌}
 use Prim.Native.Nat.{◌-◌, ◌≤◌}
-use native.Mathlib.Omega.{arith}
 use Rattle.writer.proofs.terms.clear.Given as goal
 
 abbrev pub invariant-loop-i : goal.invariant-loop-i

@@ -1,15 +1,10 @@
-use Rattle.writer.proofs.Turning.{kept-none, kept_then, room-kept}
-use Rattle.writer.proofs.Draining.{drain-fits, drain-is, drain-long, drain-fit, drain-stands, drain-falls, drained}
-use Rattle.writer.proofs.Counting.{Onward, onward-at, step-ready}
-use Rattle.writer.proofs.Telling.{table_same}
 use Rattle.writer.specs.Written.{Table, seen_of, ends}
 use Rattle.writer.specs.Owes.{owes, steps}
 use Rattle.writer.specs.Walk.{Stood, Kept}
 use Rattle.store.specs.Regions.{graph_of, frames_of, stack}
 use lib.ListN.{length}
-use mathlib.Core.Path.{◌≡◌, refl, ◌∙◌}
-use Prim.Native.Nat.{ℕ, ◌+◌, ◌-◌, ◌*◌, ◌≤◌}
-use native.Mathlib.Omega.{arith}
+use mathlib.Core.Path.{◌≡◌}
+use Prim.Native.Nat.{◌+◌, ◌-◌, ◌*◌, ◌≤◌}
 use Rattle.writer.proofs.terms.drain.Given as goal
 
 abbrev pub invariant-loop-d : goal.invariant-loop-d

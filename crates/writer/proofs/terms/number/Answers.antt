@@ -1,5 +1,4 @@
 use Rattle.writer.proofs.Telling.{number-old, number-room, number-new}
-use borrow.Author.Rules.{rules}
 use Rattle.writer.proofs.terms.number.Goals as goal
 
 pub returns-then-p-gt0 : goal.returns-then-p-gt0

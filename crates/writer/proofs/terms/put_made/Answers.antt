@@ -3,7 +3,6 @@ use Rattle.writer.specs.Owes.{tells}
 use native.Mathlib.Numerals.{add-one}
 use lib.ListN.{length-set}
 use native.Mathlib.Omega.{arith}
-use borrow.Author.Rules.{rules}
 use Rattle.writer.proofs.terms.put_made.Goals as goal
 
 pub bounds-out-at-2 : goal.bounds-out-at-2

@@ -1,5 +1,4 @@
 use Rattle.writer.proofs.Telling.{weigh-at, within-at, told-made, told_free, told-nothing}
-use borrow.Author.Rules.{rules}
 use Rattle.writer.proofs.terms.tell.Goals as goal
 
 pub put_made-requires : goal.put_made-requires

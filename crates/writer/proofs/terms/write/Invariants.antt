@@ -1,15 +1,10 @@
-use Rattle.writer.proofs.EachTerm.{read-now, each_fits, each-small, each_all, each-sum, each_long, write-all, size-all, nine}
-use Rattle.writer.proofs.Telling.{table_none}
-use Rattle.writer.proofs.Turning.{kept-none, kept_then, room-kept}
 use Rattle.writer.specs.Written.{Clean, over}
 use Rattle.writer.specs.Walk.{Kept}
 use Rattle.store.specs.Regions.{graph_of}
 use Rattle.heap.specs.Graph.{write_each}
 use lib.ListN.{length, take, drop}
-use mathlib.Core.Path.{◌≡◌, refl, ◌∙◌}
+use mathlib.Core.Path.{◌≡◌}
 use Prim.Native.Nat.{◌+◌, ◌-◌, ◌≤◌}
-use native.Mathlib.Omega.{arith}
-use borrow.Author.Rules.{rules}
 use Rattle.writer.proofs.terms.write.Given as goal
 
 abbrev pub invariant-loop-i : goal.invariant-loop-i

@@ -2,7 +2,6 @@ use Rattle.writer.proofs.EachTerm.{term_fits, term-kept, term-stands, term-fit, 
 use Rattle.writer.proofs.Counting.{begun}
 use Rattle.writer.proofs.Telling.{table_same}
 use Rattle.writer.proofs.Turning.{root-low, room-kept}
-use borrow.Author.Rules.{rules}
 use Rattle.writer.proofs.terms.write_term.Goals as goal
 
 pub visit-t-requires : goal.visit-t-requires
@@ -14,7 +13,7 @@ tell-p-requires c = let T = c.visit-t.ensures in
 
 pub drain-requires : goal.drain-requires
 drain-requires c = let T = c.visit-t.ensures in let W = c.tell-p.ensures in
-    record { room = room-kept (term-kept _ _ _ _ _ _ _ c.requires.read T c.requires.h_in_bounds _ _ _ _ W) c.requires.room; Stood = term-stands _ _ _ _ _ _ _ c.requires.read T c.requires.h_in_bounds _ _ _ _ W; table = W.table; s_in_bounds = term-fit _ _ _ _ _ _ _ c.requires.read T c.requires.h_in_bounds _ _ _ _ W }
+    record { room = room-kept (term-kept _ _ _ _ _ _ _ c.requires.read T c.requires.h_in_bounds _ _ _ _ W) c.requires.room; stood = term-stands _ _ _ _ _ _ _ c.requires.read T c.requires.h_in_bounds _ _ _ _ W; table = W.table; s_in_bounds = term-fit _ _ _ _ _ _ _ c.requires.read T c.requires.h_in_bounds _ _ _ _ W }
 
 pub returns : goal.returns
 returns c = let T = c.visit-t.ensures in let W = c.tell-p.ensures in

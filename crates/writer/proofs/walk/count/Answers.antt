@@ -1,6 +1,5 @@
 use Rattle.writer.proofs.Turning.{counted}
 use Rattle.store.proofs.Laws.{count_of}
-use borrow.Author.Rules.{rules}
 use Rattle.writer.proofs.walk.count.Goals as goal
 
 pub returns-in-Var : goal.returns-in-Var

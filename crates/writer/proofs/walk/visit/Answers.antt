@@ -1,5 +1,4 @@
 use Rattle.writer.proofs.Turning.{visit_seen, visit-is, still, pushed}
-use borrow.Author.Rules.{rules}
 use Rattle.writer.proofs.walk.visit.Goals as goal
 
 pub returns-in-Var : goal.returns-in-Var
