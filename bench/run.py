@@ -2,7 +2,7 @@
 """run.py [--ours FILE] [--checks FILE] [--books A,B]: what a turn and a node cost, ours beside unproved renderings of the same machine, as the tables of docs/PERFORMANCE.md. Not in the gate.
 
 Counted are instructions, by callgrind: they do not depend on what else the machine does. A case is run with its budget and with budget 0: the first less the second is what its turns cost, with the line
-that is printed; the second less an empty stream is what comes before (reading the case, the checks, the compiler, memory made ready). Ours is target/bin/shelf, which `rt check shelf` leaves; the others are
+that is printed; the second less an empty stream is what comes before (reading the case, the checks, the compiler, memory made ready). Ours is crates/shelf/out/shelf, which `rt run` in crates/shelf leaves; the others are
 built here: tests/second (plain Rust, `rustc -O`, its machine and its plain reading) and bench/fast.c (C, `gcc -O3`, written for speed). The lines that they print must be the same.
 Then the stack, by massif: the most that a program has of it, less what it has on an empty stream. The deepest tree that is accepted has 64 SPLITs, one below the other, of types with 32 constructors."""
 import os
@@ -100,8 +100,8 @@ def asked(name, n):
 
 def main():
     words = dict(zip(sys.argv[1::2], sys.argv[2::2]))
-    ours = [words.get("--ours", os.path.join(ROOT, "target", "bin", "shelf"))]
-    checks = [words.get("--checks", os.path.join(ROOT, "target", "bin", "checks"))]
+    ours = [words.get("--ours", os.path.join(ROOT, "crates", "shelf", "out", "shelf"))]
+    checks = [words.get("--checks", os.path.join(ROOT, "crates", "checks", "out", "checks"))]
     chosen = words["--books"].split(",") if "--books" in words else None
     turns(dict(ours=ours, **build()), chosen)
     if chosen:
