@@ -11,7 +11,7 @@ case $book$question in *[!0-9a-fA-F]*) echo "ask.sh: not a hexadecimal digit" >&
 [ $((${#book} % 2)) -eq 0 ] && [ $((${#question} % 2)) -eq 0 ] || { echo "ask.sh: half a byte at the end" >&2; exit 2; }
 length=$((${#book} / 2))
 [ "$length" -le 65535 ] || { echo "ask.sh: a book that 2 bytes announce has at most 65,535" >&2; exit 2; }
-[ -x "$root/target/bin/ask" ] || (cd "$root" && rt check ask >&2)
+[ -x "$root/crates/ask/out/ask" ] || (cd "$root/crates/ask" && rt run </dev/null >&2)
 # the length, low byte first, the book, the question
 bytes=$(printf '%02x%02x%s%s' $((length % 256)) $((length / 256)) "$book" "$question" | sed 's/../\\x&/g')
-printf '%b' "$bytes" | "$root/target/bin/ask"
+printf '%b' "$bytes" | "$root/crates/ask/out/ask"

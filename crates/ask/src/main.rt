@@ -5,9 +5,15 @@
 // The input: the book's length (2 bytes, little-endian), the book, the question.
 // Line one: the answer, the place, the seven counts. Line two: the results in lower-case hex. Input under 2 bytes, over 33,282 or shorter than the book it announces
 // is answered 14, the rest 0, line two empty: a buffer of one byte more than 33,282 tells.
+#![tactic(auto)]
+
 ghost use Rattle.std.specs.Prelude.{◌≤◌};
 
+use input::read_full;
 use run::{Limits, Outcome};
+use std::alloc::Global;
+use std::io;
+use std::io::{BufWriter, Write};
 
 // The limits of document 01's program.
 fn limits() -> Limits {
@@ -21,28 +27,28 @@ fn limits() -> Limits {
 }
 
 // Both lines of an outcome.
-fn print(o: Outcome, results: &[u8]) {
+fn print<W: Write>(out: &mut W, o: Outcome, results: &[u8]) -> io::Result<()> {
     let n = o.written;
-    lines::print_told(o);
-    io::write_all(1, b"\n");
+    lines::print_told(out, o)?;
+    out.write_all(b"\n")?;
     if n <= results.len() {
-        lines::print_hex(&results[..n]);
+        lines::print_hex(out, &results[..n])?;
     }
-    io::write_all(1, b"\n");
+    out.write_all(b"\n")
 }
 
 // Both lines of an input that is no case.
-fn refuse() {
-    io::write_all(1, b"14 0 0 0 0 0 0 0 0\n\n");
+fn refuse<W: Write>(out: &mut W) -> io::Result<()> {
+    out.write_all(b"14 0 0 0 0 0 0 0 0\n\n")
 }
 
 // The run of a question: work memory is 40 x 1,600 + 40 x 64 + 8,192 bytes.
-fn judge(book: &[u8], question: &[u8]) {
-    let mut work = [0u8; 74752];
-    let mut code = [0u8; 16384];
-    let mut results = [0u8; 4096];
+fn judge<W: Write>(alloc: Global, out: &mut W, book: &[u8], question: &[u8]) -> io::Result<()> {
+    let mut work = vec![in alloc; 0u8; 74752]?;
+    let mut code = vec![in alloc; 0u8; 16384]?;
+    let mut results = vec![in alloc; 0u8; 4096]?;
     let o = run::run(book, question, limits(), &mut work, &mut code, &mut results);
-    print(o, &results);
+    print(out, o, &results)
 }
 
 // A byte as a number.
@@ -53,28 +59,30 @@ fn wide(x: u8) -> usize
 }
 
 // The book of this length and the question after it.
-fn divide(b: usize, rest: &[u8]) {
+fn divide<W: Write>(alloc: Global, out: &mut W, b: usize, rest: &[u8]) -> io::Result<()> {
     if rest.len() < b {
-        return refuse();
+        return refuse(out);
     }
-    judge(&rest[..b], &rest[b..]);
+    judge(alloc, out, &rest[..b], &rest[b..])
 }
 
 // All of the input.
-fn answer(input: &[u8]) {
+fn answer<W: Write>(alloc: Global, out: &mut W, input: &[u8]) -> io::Result<()> {
     if input.len() < 2 {
-        return refuse();
+        return refuse(out);
     }
     if 33282 < input.len() {
-        return refuse();
+        return refuse(out);
     }
     let b = wide(input[0]) + 256 * wide(input[1]);
-    divide(b, &input[2..]);
+    divide(alloc, out, b, &input[2..])
 }
 
 // The input's bytes, and one more where there is one.
-fn main() {
-    let mut input = [0u8; 33283];
-    let n = io::read_full(0, &mut input);
-    answer(&input[..n]);
+fn main(rt: HostRuntime) -> io::Result<()> {
+    let mut out = BufWriter::new(rt.alloc(), io::writer(&rt))?;
+    let mut input = vec![in rt.alloc(); 0u8; 33283]?;
+    let n = read_full(&mut rt.reader(), &mut input)?;
+    answer(rt.alloc(), &mut out, &input[..n])?;
+    out.flush()
 }

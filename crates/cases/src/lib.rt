@@ -1,6 +1,8 @@
 // A stream of cases, as the programs over the run read it, and what the engine gives for each.
 // Here: the forms that the modules share. The modules, lowest first: passing, stream, whole.
 // Not here: the run (crate run), what is printed (crate lines).
+#![tactic(auto)]
+
 use run::{Limits, Outcome};
 
 mod passing;

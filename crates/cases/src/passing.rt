@@ -8,6 +8,7 @@ ghost use Rattle.cases.specs.Parts.{begun, byte, passed, reach};
 use crate::Passed;
 
 // A record at a place, by its kind.
+#[tactic(auto, unfolding(crate::specs::Parts::begun, book::specs::Record::body_of))]
 fn begin(k: usize, kind: u8) -> Passed
     requires { k + 1 < 18446744073709551616 }
     ensures { result ≡ begun k (body_of kind) }
@@ -21,6 +22,7 @@ fn begin(k: usize, kind: u8) -> Passed
 }
 
 // The next byte.
+#[tactic(auto, unfolding(crate::specs::Parts::byte, crate::specs::Parts::due, crate::specs::Parts::reach))]
 fn pass_byte(p: Passed, x: u8) -> Passed
     requires { reach p + 1 < 18446744073709551616 }
     ensures { result ≡ byte p x }

@@ -1,16 +1,19 @@
-// A case's bytes, read from standard input.
+// A case's bytes, read from a stream.
 // Here, in order: its numbers; bytes that are passed over; a book; a question, of which the rest is looked at as it passes.
 // Not here: the first pass (passing), the run (whole). No contract can say which bytes are read.
 //
 // A case: seven 4-byte little-endian numbers (nodes, pool, budget, results room, code room, book length, question length), the book, the question.
-ghost use Rattle.std.specs.Prelude.{◌≡◌, ◌≤◌, ◌<◌, ◌+◌, length};
+ghost use Rattle.std.specs.Prelude.{◌≡◌, ◌≤◌, ◌<◌, ◌+◌, length, IfOk};
 ghost use Rattle.cases.specs.Parts.{reach};
 ghost use Rattle.cases.specs.Whole.{whole_part, HeadIs, RestIs, PartOf, QuestionIs};
 
 use crate::passing::pass_part;
 use crate::{Head, Passed, Question, Rest};
+use input::read_full;
 use lines::least;
 use run::Limits;
+use std::io;
+use std::io::Read;
 
 // A byte as a number.
 fn wide(x: u8) -> usize
@@ -44,76 +47,78 @@ fn limits(head: &[u8]) -> Limits
 }
 
 // The numbers of the next case.
-pub fn read_head() -> Head
-    ensures { HeadIs result }
+#[tactic(auto, unfolding(crate::specs::Whole::HeadIs))]
+pub fn read_head<R: Read>(input: &mut R) -> io::Result<Head>
+    ensures { IfOk result HeadIs }
 {
     let mut head = [0u8; 28];
-    let n = io::read_full(0, &mut head);
+    let n = read_full(input, &mut head)?;
     if n == 0 {
-        return Head::Ended;
+        return Ok(Head::Ended);
     }
     if n < 28 {
-        return Head::Cut;
+        return Ok(Head::Cut);
     }
     let b = number(&head, 20);
     let q = number(&head, 24);
-    Head::Is(limits(&head), b, q)
+    Ok(Head::Is(limits(&head), b, q))
 }
 
 // Reads at most n bytes into a chunk, and answers how many: 0 where the input ends.
-fn pass(n: usize, chunk: &mut [u8]) -> usize
-    ensures { (result ≤ n) × (result ≤ length chunk.new) }
+fn pass<R: Read>(input: &mut R, n: usize, chunk: &mut [u8]) -> io::Result<usize>
+    ensures { IfOk result (λ m. (m ≤ n) × (m ≤ length chunk.new)) }
 {
     let m = least(n, chunk.len());
-    io::read_full(0, &mut chunk[..m])
+    read_full(input, &mut chunk[..m])
 }
 
 // Passes over n bytes; whether there are as many.
-fn skip(n: usize) -> bool {
-    let mut space = io::buffer();
+fn skip<R: Read>(input: &mut R, n: usize) -> io::Result<bool> {
+    let mut space = [0u8; 4096];
     let chunk: &mut [u8] = &mut space;
     let mut left = n;
     while left > 0 {
-        let got = pass(left, chunk);
+        let got = pass(input, left, chunk)?;
         if got == 0 {
-            return false;
+            return Ok(false);
         }
         left -= got;
     }
-    true
+    Ok(true)
 }
 
 // Reads a book of b bytes, of which it keeps what there is room for; whether there are as many.
-pub fn read_book(b: usize, book: &mut [u8]) -> bool {
+pub fn read_book<R: Read>(input: &mut R, b: usize, book: &mut [u8]) -> io::Result<bool> {
     let m = least(b, book.len());
-    let got = io::read_full(0, &mut book[..m]);
+    let got = read_full(input, &mut book[..m])?;
     if got < m {
-        return false;
+        return Ok(false);
     }
-    skip(b - m)
+    skip(input, b - m)
 }
 
 // Passes over n bytes of a question, its first pass going on over them.
-fn pass_rest(p: Passed, n: usize) -> Rest
+fn pass_rest<R: Read>(input: &mut R, p: Passed, n: usize) -> io::Result<Rest>
     requires { reach p + n < 18446744073709551616 }
-    ensures { RestIs p n result }
+    ensures { IfOk result (RestIs p n) }
 {
-    let mut space = io::buffer();
+    let mut space = [0u8; 4096];
     let chunk: &mut [u8] = &mut space;
     let mut so_far = p;
     let mut left = n;
     while left > 0 {
-        let got = pass(left, chunk);
+        let got = pass(input, left, chunk)?;
         if got == 0 {
-            return Rest::Cut;
+            return Ok(Rest::Cut);
         }
         so_far = pass_part(so_far, &chunk[..got]);
         left -= got;
     }
-    Rest::Are(so_far)
+    Ok(Rest::Are(so_far))
 }
 
 // Of a part's m bytes, by the first pass over it, how many are no record that goes on behind it.
+#[tactic(auto, unfolding(crate::specs::Whole::whole_part))]
 fn whole_part(p: Passed, m: usize) -> usize
     ensures { result ≡ whole_part p m }
 {
@@ -125,31 +130,31 @@ fn whole_part(p: Passed, m: usize) -> usize
 }
 
 // A question of q bytes, of which a part was read: looks at the rest.
-fn look_on(part: &[u8], q: usize) -> Question
+fn look_on<R: Read>(input: &mut R, part: &[u8], q: usize) -> io::Result<Question>
     requires { PartOf part.now q }
-    ensures { QuestionIs part.now q result }
+    ensures { IfOk result (QuestionIs part.now q) }
 {
     let p = pass_part(Passed::Whole(0), part);
     let m = part.len();
     if m == q {
-        return Question::Kept(m, p);
+        return Ok(Question::Kept(m, p));
     }
-    let r = pass_rest(p, q - m);
+    let r = pass_rest(input, p, q - m)?;
     match r {
-        Rest::Are(all) => Question::Kept(whole_part(p, m), all),
-        Rest::Cut => Question::Cut,
+        Rest::Are(all) => Ok(Question::Kept(whole_part(p, m), all)),
+        Rest::Cut => Ok(Question::Cut),
     }
 }
 
 // Reads a question of q bytes, of which it keeps what there is room for.
-pub fn read_question(q: usize, question: &mut [u8]) -> Question
+pub fn read_question<R: Read>(input: &mut R, q: usize, question: &mut [u8]) -> io::Result<Question>
     requires { (771 ≤ length question.old) × (q < 4294967296) }
-    ensures { QuestionIs question.new q result }
+    ensures { IfOk result (QuestionIs question.new q) }
 {
     let m = least(q, question.len());
-    let got = io::read_full(0, &mut question[..m]);
+    let got = read_full(input, &mut question[..m])?;
     if got < m {
-        return Question::Cut;
+        return Ok(Question::Cut);
     }
-    look_on(&question[..m], q)
+    look_on(input, &question[..m], q)
 }

@@ -5,7 +5,7 @@
 // What the engine is not shown. Of a book over 32,768 bytes it sees 32,769 or more: the answer depends only on the length being over 32,768. Of a question that is longer than
 // what is kept it sees the whole records there, and the rest is looked at as it passes: the first pass decides by an unknown kind or a cut body anywhere, and where it finds
 // none, the reading stops at a fault in the first 768 bytes, since a RIGHT and its term have no more and nothing may follow them.
-ghost use Rattle.std.specs.Prelude.{◌≡◌, ◌≤◌, ◌<◌, length};
+ghost use Rattle.std.specs.Prelude.{◌≡◌, ◌≤◌, ◌<◌, length, IfOk};
 ghost use Rattle.engine.specs.Run.{work_size};
 ghost use Rattle.run.specs.Given.{answer_is, limits_of};
 ghost use Rattle.cases.specs.Parts.{found};
@@ -16,8 +16,11 @@ use crate::{Passed, Question, Taken};
 use book::Sort;
 use lines::least;
 use run::{Answer, Limits, Outcome};
+use std::io;
+use std::io::Read;
 
 // A question's fault: that of the first pass over all of it, if there is one.
+#[tactic(auto, unfolding(crate::specs::Whole::first, crate::specs::Parts::found, run::specs::Given::answer_is))]
 fn first_fault(p: Passed, w: Sort, at: usize) -> Answer
     ensures { answer_is result ≡ first (found p) w at }
 {
@@ -29,6 +32,7 @@ fn first_fault(p: Passed, w: Sort, at: usize) -> Answer
 }
 
 // An answer, by the first pass over all of the question.
+#[tactic(auto, unfolding(crate::specs::Whole::settled, run::specs::Given::answer_is))]
 fn settle(a: Answer, p: Passed) -> Answer
     ensures { answer_is result ≡ settled (found p) (answer_is a) }
 {
@@ -73,6 +77,7 @@ pub fn run_case(
 }
 
 // The work memory that limits ask; for limits out of range, which are refused whatever is lent, no more than the largest ask.
+#[tactic(auto, unfolding(engine::specs::Run::work_size))]
 pub fn work_size(l: Limits) -> usize
     ensures { (l.nodes ≤ 16384) × (l.pool ≤ 1024) → result ≡ work_size (limits_of l) }
 {
@@ -80,7 +85,8 @@ pub fn work_size(l: Limits) -> usize
 }
 
 // A case of these limits, with a book of b bytes and a question of q, read and run.
-pub fn take_case(
+pub fn take_case<R: Read>(
+    input: &mut R,
     l: Limits,
     b: usize,
     q: usize,
@@ -89,19 +95,20 @@ pub fn take_case(
     work: &mut [u8],
     code: &mut [u8],
     results: &mut [u8],
-) -> Taken
+) -> io::Result<Taken>
     requires { (32769 ≤ length book.old) × (771 ≤ length question.old) × (q < 4294967296) }
-    ensures { TakenIs l b q result work.old work.new code.old code.new results.old results.new }
+    ensures { IfOk result (λ t. TakenIs l b q t work.old work.new code.old code.new results.old results.new) }
 {
-    if !read_book(b, book) {
-        return Taken::Cut;
+    if !read_book(input, b, book)? {
+        return Ok(Taken::Cut);
     }
-    let k = read_question(q, question);
+    let k = read_question(input, q, question)?;
     match k {
         Question::Kept(n, p) => {
             let m = least(b, book.len());
-            Taken::Gave(run_case(l, &book[..m], &question[..n], p, work, code, results))
+            let o = run_case(l, &book[..m], &question[..n], p, work, code, results);
+            Ok(Taken::Gave(o))
         }
-        Question::Cut => Taken::Cut,
+        Question::Cut => Ok(Taken::Cut),
     }
 }

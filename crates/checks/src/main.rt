@@ -4,11 +4,16 @@
 //
 // A case: the book's length and the question's (4 bytes each, little-endian), the book, the question.
 // Its line: number, place and sort of the book check, then of the question check; `14 0 0 14 0 0` for a length above 65,536.
+#![tactic(auto)]
+
 ghost use Rattle.std.specs.Prelude.{◌≡◌, ◌≤◌};
 ghost use Rattle.book.specs.Answers.{told_of};
 ghost use Rattle.checks.specs.Line.{answer_of, place_of};
 
 use book::{Sort, Verdict};
+use input::read_full;
+use std::io;
+use std::io::{BufReader, BufWriter, Read, Write};
 
 // A byte as a number.
 fn wide(x: u8) -> usize
@@ -18,6 +23,7 @@ fn wide(x: u8) -> usize
 }
 
 // The paper's number of a verdict.
+#[tactic(auto, unfolding(book::specs::Answers::told_of))]
 fn answer(v: Verdict) -> u64
     ensures { result ≡ answer_of (told_of v) }
 {
@@ -29,6 +35,7 @@ fn answer(v: Verdict) -> u64
 }
 
 // The place that a verdict gives.
+#[tactic(auto, unfolding(book::specs::Answers::told_of))]
 fn place(v: Verdict) -> usize
     ensures { result ≡ place_of (told_of v) }
 {
@@ -60,12 +67,8 @@ fn sort(v: Verdict) -> u64 {
 }
 
 // A verdict: number, place, sort.
-fn print(v: Verdict) {
-    io::print_decimal(1, answer(v));
-    io::write_all(1, b" ");
-    io::print_decimal(1, place(v) as u64);
-    io::write_all(1, b" ");
-    io::print_decimal(1, sort(v));
+fn print<W: Write>(out: &mut W, v: Verdict) -> io::Result<()> {
+    write!(out, "{} {} {}", answer(v), place(v), sort(v))
 }
 
 // Four bytes as a number.
@@ -82,92 +85,109 @@ fn least(a: usize, b: usize) -> usize
 }
 
 // Passes over at most n bytes of the input, by way of a chunk, and answers how many are still to pass: 0 where the input ends.
-fn pass(n: usize, chunk: &mut [u8]) -> usize {
+fn pass<R: Read>(input: &mut R, n: usize, chunk: &mut [u8]) -> io::Result<usize> {
     let m = least(n, chunk.len());
-    let got = io::read_full(0, &mut chunk[..m]);
+    let got = read_full(input, &mut chunk[..m])?;
     if got == 0 {
-        return 0;
+        return Ok(0);
     }
-    if got < n { n - got } else { 0 }
+    Ok(if got < n { n - got } else { 0 })
 }
 
 // Passes over n bytes of the input, or as many as there are: in as many turns as there are bytes at most.
-fn skip(n: usize) {
-    let mut space = io::buffer();
+fn skip<R: Read>(input: &mut R, n: usize) -> io::Result<()> {
+    let mut space = [0u8; 4096];
     let chunk: &mut [u8] = &mut space;
     let mut left = n;
     let mut turns = n;
     while turns > 0 {
-        left = pass(left, chunk);
+        left = pass(input, left, chunk)?;
         turns = if 0 < left { turns - 1 } else { 0 };
     }
+    Ok(())
 }
 
 // Both checks of a case.
-fn judge(book: &[u8], question: &[u8]) {
-    print(book::check_book(book));
-    io::write_all(1, b" ");
-    print(book::check_question(book, question));
-    io::write_all(1, b"\n");
+fn judge<W: Write>(out: &mut W, book: &[u8], question: &[u8]) -> io::Result<()> {
+    print(out, book::check_book(book))?;
+    out.write_all(b" ")?;
+    print(out, book::check_question(book, question))?;
+    out.write_all(b"\n")
 }
 
 // One case with bytes of these lengths; whether to go on.
-fn answer_one(book: &mut [u8], question: &mut [u8], b: usize, q: usize) -> bool {
+fn answer_one<R: Read, W: Write>(
+    input: &mut R,
+    out: &mut W,
+    book: &mut [u8],
+    question: &mut [u8],
+    b: usize,
+    q: usize,
+) -> io::Result<bool> {
     if book.len() < b {
-        return refuse(b, q);
+        return refuse(input, out, b, q);
     }
     if question.len() < q {
-        return refuse(b, q);
+        return refuse(input, out, b, q);
     }
-    let gb = io::read_full(0, &mut book[..b]);
-    let gq = io::read_full(0, &mut question[..q]);
+    let gb = read_full(input, &mut book[..b])?;
+    let gq = read_full(input, &mut question[..q])?;
     if gb < b {
-        return cut();
+        return cut(out);
     }
     if gq < q {
-        return cut();
+        return cut(out);
     }
-    judge(&book[..b], &question[..q]);
-    true
+    judge(out, &book[..b], &question[..q])?;
+    Ok(true)
 }
 
 // A case that is too long.
-fn refuse(b: usize, q: usize) -> bool {
-    skip(b);
-    skip(q);
-    io::write_all(1, b"14 0 0 14 0 0\n");
-    true
+fn refuse<R: Read, W: Write>(input: &mut R, out: &mut W, b: usize, q: usize) -> io::Result<bool> {
+    skip(input, b)?;
+    skip(input, q)?;
+    out.write_all(b"14 0 0 14 0 0\n")?;
+    Ok(true)
 }
 
 // A stream that ends inside a case.
-fn cut() -> bool {
-    io::write_all(1, b"14 0 0 14 0 0\n");
-    false
+fn cut<W: Write>(out: &mut W) -> io::Result<bool> {
+    out.write_all(b"14 0 0 14 0 0\n")?;
+    Ok(false)
 }
 
 // The next case; whether there was one.
-fn next(book: &mut [u8], question: &mut [u8]) -> bool {
+fn next<R: Read, W: Write>(
+    input: &mut R,
+    out: &mut W,
+    book: &mut [u8],
+    question: &mut [u8],
+) -> io::Result<bool> {
     let mut head = [0u8; 8];
-    let n = io::read_full(0, &mut head);
+    let n = read_full(input, &mut head)?;
     if n == 0 {
-        return false;
+        return Ok(false);
     }
     if n < 8 {
-        return cut();
+        return cut(out);
     }
     let b = length(head[0], head[1], head[2], head[3]);
     let q = length(head[4], head[5], head[6], head[7]);
-    answer_one(book, question, b, q)
+    answer_one(input, out, book, question, b, q)
 }
 
 // All cases: a number of turns that no run uses up, since nothing says that the input ends.
-fn main() {
-    let mut space = io::large_buffer();
-    let mut room = io::large_buffer();
-    let book: &mut [u8] = &mut space;
-    let question: &mut [u8] = &mut room;
-    let mut turns = u64::MAX;
-    while turns > 0 && next(book, question) {
-        turns -= 1;
+fn main(rt: HostRuntime) -> io::Result<()> {
+    let mut input = BufReader::new(rt.alloc(), rt.reader())?;
+    let mut out = BufWriter::new(rt.alloc(), io::writer(&rt))?;
+    let mut book = vec![in rt.alloc(); 0u8; 65536]?;
+    let mut question = vec![in rt.alloc(); 0u8; 65536]?;
+    for _ in 0..u64::MAX {
+        let more = next(&mut input, &mut out, &mut book, &mut question)?;
+        out.flush()?;
+        if !more {
+            return Ok(());
+        }
     }
+    Ok(())
 }

@@ -4,9 +4,15 @@
 //
 // A case: the book's length (4 bytes, little-endian), the book.
 // Its line: `0 0 LENGTH HEX`, the code's length and bytes, `-` where there are none or more than 262,144; `11 PLACE 0 -` for a book at fault.
-ghost use Rattle.std.specs.Prelude.{◌≡◌, ◌≤◌, ◌<◌, ◌+◌, ◌*◌, length};
+#![tactic(auto)]
+
+ghost use Rattle.std.specs.Prelude.{◌≡◌, ◌≤◌, ◌<◌, ◌+◌, ◌*◌, length, IfOk, vec_len};
 
 use compiler::Compiled;
+use input::read_full;
+use std::alloc::{AllocError, Global};
+use std::io;
+use std::io::{BufReader, BufWriter, Read, Write};
 
 // A byte as a number.
 fn wide(x: u8) -> usize
@@ -51,7 +57,7 @@ fn show(bytes: &[u8], at: usize, n: usize, chunk: &mut [u8])
 }
 
 // The first n bytes, in hex.
-fn print_bytes(bytes: &[u8], n: usize, chunk: &mut [u8])
+fn print_bytes<W: Write>(out: &mut W, bytes: &[u8], n: usize, chunk: &mut [u8]) -> io::Result<()>
     requires { (n ≤ length bytes.now) × (length chunk.old ≡ 4096) }
 {
     let mut at = 0;
@@ -59,133 +65,155 @@ fn print_bytes(bytes: &[u8], n: usize, chunk: &mut [u8])
         let m = piece(n - at);
         let e = 2 * m;
         show(bytes, at, m, chunk);
-        io::write_all(1, &chunk[..e]);
+        out.write_all(&chunk[..e])?;
         at += m;
     }
+    Ok(())
 }
 
 // The same, if there are so many.
-fn print_some(bytes: &[u8], n: usize, chunk: &mut [u8])
+fn print_some<W: Write>(out: &mut W, bytes: &[u8], n: usize, chunk: &mut [u8]) -> io::Result<()>
     requires { length chunk.old ≡ 4096 }
 {
     if bytes.len() < n {
-        return;
+        return Ok(());
     }
-    print_bytes(bytes, n, chunk);
+    print_bytes(out, bytes, n, chunk)
 }
 
 // The code's length and bytes.
-fn print_code(code: &[u8], n: usize, chunk: &mut [u8])
+fn print_code<W: Write>(out: &mut W, code: &[u8], n: usize, chunk: &mut [u8]) -> io::Result<()>
     requires { length chunk.old ≡ 4096 }
 {
-    io::write_all(1, b"0 0 ");
-    io::print_decimal(1, n as u64);
-    io::write_all(1, b" ");
+    write!(out, "0 0 {n} ")?;
     if n == 0 {
-        io::write_all(1, b"-");
+        out.write_all(b"-")?;
     }
-    print_some(code, n, chunk);
-    io::write_all(1, b"\n");
+    print_some(out, code, n, chunk)?;
+    out.write_all(b"\n")
 }
 
 // A line with no bytes of code.
-fn print_none(answer: u64, place: usize, long: usize) {
-    io::print_decimal(1, answer);
-    io::write_all(1, b" ");
-    io::print_decimal(1, place as u64);
-    io::write_all(1, b" ");
-    io::print_decimal(1, long as u64);
-    io::write_all(1, b" -\n");
+fn print_none<W: Write>(out: &mut W, answer: u64, place: usize, long: usize) -> io::Result<()> {
+    writeln!(out, "{answer} {place} {long} -")
 }
 
 // One book compiled.
-fn compile_one(book: &[u8], tables: &mut [u8], code: &mut [u8], chunk: &mut [u8])
+fn compile_one<W: Write>(
+    out: &mut W,
+    book: &[u8],
+    tables: &mut [u8],
+    code: &mut [u8],
+    chunk: &mut [u8],
+) -> io::Result<()>
     requires { (length tables.old ≡ 4096) × (length code.old ≡ 262144) × (length chunk.old ≡ 4096) }
 {
     let r = compiler::compile_into(book, tables, code, 262144);
     match r {
-        Compiled::Fits(n) => print_code(code, n, chunk),
-        Compiled::TooLong(n) => print_none(0, 0, n),
-        Compiled::Fault(_, p) => print_none(11, p, 0),
+        Compiled::Fits(n) => print_code(out, code, n, chunk),
+        Compiled::TooLong(n) => print_none(out, 0, 0, n),
+        Compiled::Fault(_, p) => print_none(out, 11, p, 0),
     }
 }
 
 // Passes over at most n bytes of the input, by way of a chunk, and answers how many are still to pass: 0 where the input ends.
-fn pass(n: usize, chunk: &mut [u8]) -> usize {
+fn pass<R: Read>(input: &mut R, n: usize, chunk: &mut [u8]) -> io::Result<usize> {
     let m = least(n, chunk.len());
-    let got = io::read_full(0, &mut chunk[..m]);
+    let got = read_full(input, &mut chunk[..m])?;
     if got == 0 {
-        return 0;
+        return Ok(0);
     }
-    if got < n { n - got } else { 0 }
+    Ok(if got < n { n - got } else { 0 })
 }
 
 // Passes over n bytes of the input, or as many as there are: in as many turns as there are bytes at most.
-fn skip(n: usize, chunk: &mut [u8]) {
+fn skip<R: Read>(input: &mut R, n: usize, chunk: &mut [u8]) -> io::Result<()> {
     let mut left = n;
     let mut turns = n;
     while turns > 0 {
-        left = pass(left, chunk);
+        left = pass(input, left, chunk)?;
         turns = if 0 < left { turns - 1 } else { 0 };
     }
+    Ok(())
 }
 
 // A book that is longer than any.
-fn too_long(b: usize, chunk: &mut [u8]) -> bool {
-    skip(b, chunk);
-    print_none(11, 32768, 0);
-    true
+fn too_long<R: Read, W: Write>(
+    input: &mut R,
+    out: &mut W,
+    b: usize,
+    chunk: &mut [u8],
+) -> io::Result<bool> {
+    skip(input, b, chunk)?;
+    print_none(out, 11, 32768, 0)?;
+    Ok(true)
 }
 
 // A stream that ends inside a case.
-fn cut() -> bool {
-    print_none(14, 0, 0);
-    false
+fn cut<W: Write>(out: &mut W) -> io::Result<bool> {
+    print_none(out, 14, 0, 0)?;
+    Ok(false)
 }
 
 // The next book; whether there was one.
-fn next(book: &mut [u8], tables: &mut [u8], code: &mut [u8], chunk: &mut [u8]) -> bool
+fn next<R: Read, W: Write>(
+    input: &mut R,
+    out: &mut W,
+    book: &mut [u8],
+    tables: &mut [u8],
+    code: &mut [u8],
+    chunk: &mut [u8],
+) -> io::Result<bool>
     requires { (length tables.old ≡ 4096) × (length code.old ≡ 262144) × (length chunk.old ≡ 4096) }
 {
     let mut head = [0u8; 4];
-    let n = io::read_full(0, &mut head);
+    let n = read_full(input, &mut head)?;
     if n == 0 {
-        return false;
+        return Ok(false);
     }
     if n < 4 {
-        return cut();
+        return cut(out);
     }
     let b = wide(head[0]) + 256 * wide(head[1]) + 65536 * wide(head[2]) + 16777216 * wide(head[3]);
     if book.len() < b {
-        return too_long(b, chunk);
+        return too_long(input, out, b, chunk);
     }
-    let got = io::read_full(0, &mut book[..b]);
+    let got = read_full(input, &mut book[..b])?;
     if got < b {
-        return cut();
+        return cut(out);
     }
-    compile_one(&book[..b], tables, code, chunk);
-    true
+    compile_one(out, &book[..b], tables, code, chunk)?;
+    Ok(true)
 }
 
 // Room for the longest code.
-fn code_room() -> [u8; 262144]
-    ensures { 262144 ≡ length result }
+fn code_room(alloc: Global) -> Result<Vec<u8>, AllocError>
+    ensures { IfOk result (λ v. 262144 ≡ vec_len v) }
 {
-    [0; 262144]
+    vec![in alloc; 0u8; 262144]
 }
 
 // All books: a number of turns that no run uses up, since nothing says that the input ends.
-fn main() {
-    let mut a = io::large_buffer();
-    let mut b = io::buffer();
-    let mut c = code_room();
-    let mut d = io::buffer();
-    let book: &mut [u8] = &mut a;
-    let tables: &mut [u8] = &mut b;
-    let code: &mut [u8] = &mut c;
-    let chunk: &mut [u8] = &mut d;
-    let mut turns = u64::MAX;
-    while turns > 0 && next(book, tables, code, chunk) {
-        turns -= 1;
+fn main(rt: HostRuntime) -> io::Result<()> {
+    let mut input = BufReader::new(rt.alloc(), rt.reader())?;
+    let mut out = BufWriter::new(rt.alloc(), io::writer(&rt))?;
+    let mut book = vec![in rt.alloc(); 0u8; 65536]?;
+    let mut tables = [0u8; 4096];
+    let mut code = code_room(rt.alloc())?;
+    let mut chunk = [0u8; 4096];
+    for _ in 0..u64::MAX {
+        let more = next(
+            &mut input,
+            &mut out,
+            &mut book,
+            &mut tables,
+            &mut code,
+            &mut chunk,
+        )?;
+        out.flush()?;
+        if !more {
+            return Ok(());
+        }
     }
+    Ok(())
 }

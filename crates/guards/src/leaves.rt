@@ -1,7 +1,7 @@
 // What a run leaves, checked: each memory lent with 64 bytes on both sides, all of it filled before.
 // Here, in order: what is named; one memory's guards and its lent bytes; the code; a refusal; another run; all of it.
 // Not here: the pattern (marks), the run (main).
-ghost use Rattle.std.specs.Prelude.{◌≡◌, ◌+◌, ◌≤◌, length};
+ghost use Rattle.std.specs.Prelude.{◌≡◌, ◌+◌, ◌≤◌, length, IfOk, vec_len};
 ghost use Rattle.guards.specs.Pattern.{Lent};
 
 use crate::Sizes;
@@ -9,114 +9,169 @@ use crate::marks::{intact, same};
 use compiler::Compiled;
 use lines::least;
 use run::Outcome;
+use std::alloc::{AllocError, Global};
+use std::io;
+use std::io::Write;
 
 // Names what is not as it should be; whether all is.
-pub fn say(fine: bool, what: &[u8]) -> bool
-    ensures { result ≡ fine }
+pub fn say<W: Write>(out: &mut W, fine: bool, what: &[u8]) -> io::Result<bool>
+    ensures { IfOk result (λ b. b ≡ fine) }
 {
     if fine {
-        return true;
+        return Ok(true);
     }
-    io::write_all(1, what);
-    false
+    out.write_all(what)?;
+    Ok(false)
 }
 
 // Whether the 64 bytes before and the 64 after a memory's n lent bytes are as they were filled.
-fn check_sides(mem: &[u8], n: usize, before: &[u8], after: &[u8]) -> bool
+fn check_sides<W: Write>(
+    out: &mut W,
+    mem: &[u8],
+    n: usize,
+    before: &[u8],
+    after: &[u8],
+) -> io::Result<bool>
     requires { n + 128 ≤ length mem.now }
 {
-    let a = say(intact(mem, 0, 64), before);
-    let b = say(intact(mem, 64 + n, 128 + n), after);
-    a && b
+    let a = say(out, intact(mem, 0, 64), before)?;
+    let b = say(out, intact(mem, 64 + n, 128 + n), after)?;
+    Ok(a && b)
 }
 
 // Whether a memory's n lent bytes are as they were filled, from the k-th on.
-fn check_from(mem: &[u8], k: usize, n: usize, what: &[u8]) -> bool
+fn check_from<W: Write>(
+    out: &mut W,
+    mem: &[u8],
+    k: usize,
+    n: usize,
+    what: &[u8],
+) -> io::Result<bool>
     requires { (k ≤ n) × (n + 128 ≤ length mem.now) }
 {
-    say(intact(mem, 64 + k, 64 + n), what)
+    say(out, intact(mem, 64 + k, 64 + n), what)
 }
 
 // Whether the c lent bytes of code memory are n bytes of code, and beyond them as they were filled.
-fn check_written(own: &[u8], n: usize, code: &[u8], c: usize) -> bool
+fn check_written<W: Write>(
+    out: &mut W,
+    own: &[u8],
+    n: usize,
+    code: &[u8],
+    c: usize,
+) -> io::Result<bool>
     requires { (n ≤ length own.now) × (c + 128 ≤ length code.now) }
 {
     if c < n {
-        return say(false, b"code; ");
+        return say(out, false, b"code; ");
     }
-    let a = say(same(own, code, 64, n), b"code; ");
-    let b = check_from(code, n, c, b"code rest; ");
-    a && b
+    let a = say(out, same(own, code, 64, n), b"code; ")?;
+    let b = check_from(out, code, n, c, b"code rest; ")?;
+    Ok(a && b)
 }
 
 // Room for the longest code.
-fn code_room() -> [u8; 262144]
-    ensures { 262144 ≡ length result }
+fn code_room(alloc: Global) -> Result<Vec<u8>, AllocError>
+    ensures { IfOk result (λ v. 262144 ≡ vec_len v) }
 {
-    [0; 262144]
+    vec![in alloc; 0u8; 262144]
 }
 
 // The same, the code compiled here once more.
-fn check_code(book: &[u8], code: &[u8], c: usize) -> bool
+fn check_code<W: Write>(
+    alloc: Global,
+    out: &mut W,
+    book: &[u8],
+    code: &[u8],
+    c: usize,
+) -> io::Result<bool>
     requires { c + 128 ≤ length code.now }
 {
-    let mut tables = io::buffer();
-    let mut own = code_room();
+    let mut tables = [0u8; 4096];
+    let mut own = code_room(alloc)?;
     let r = compiler::compile_into(book, &mut tables, &mut own, 262144);
     match r {
-        Compiled::Fits(n) => check_written(&own, n, code, c),
-        Compiled::TooLong(_) => say(false, b"code; "),
-        Compiled::Fault(_, _) => say(false, b"code; "),
+        Compiled::Fits(n) => check_written(out, &own, n, code, c),
+        Compiled::TooLong(_) => say(out, false, b"code; "),
+        Compiled::Fault(_, _) => say(out, false, b"code; "),
     }
 }
 
 // What a refusal leaves: every lent byte.
-fn check_refused(work: &[u8], code: &[u8], results: &[u8], s: Sizes) -> bool
+fn check_refused<W: Write>(
+    out: &mut W,
+    work: &[u8],
+    code: &[u8],
+    results: &[u8],
+    s: Sizes,
+) -> io::Result<bool>
     requires { Lent s work.now code.now results.now }
 {
-    let a = check_from(work, 0, s.work, b"work refused; ");
-    let b = check_from(code, 0, s.code, b"code refused; ");
-    let c = check_from(results, 0, s.results, b"results refused; ");
-    a && b && c
+    let a = check_from(out, work, 0, s.work, b"work refused; ")?;
+    let b = check_from(out, code, 0, s.code, b"code refused; ")?;
+    let c = check_from(out, results, 0, s.results, b"results refused; ")?;
+    Ok(a && b && c)
 }
 
 // What another run leaves: the code's bytes, result bytes beyond those written.
-fn check_run(book: &[u8], code: &[u8], results: &[u8], s: Sizes, written: usize) -> bool
+fn check_run<W: Write>(
+    alloc: Global,
+    out: &mut W,
+    book: &[u8],
+    code: &[u8],
+    results: &[u8],
+    s: Sizes,
+    written: usize,
+) -> io::Result<bool>
     requires { (s.code + 128 ≤ length code.now) × (s.results + 128 ≤ length results.now) }
 {
-    let a = check_code(book, code, s.code);
+    let a = check_code(alloc, out, book, code, s.code)?;
     let n = s.results;
-    let b = check_from(results, least(written, n), n, b"results rest; ");
-    a && b
+    let b = check_from(out, results, least(written, n), n, b"results rest; ")?;
+    Ok(a && b)
 }
 
 // What lies before and after each lent slice.
-fn check_guards(work: &[u8], code: &[u8], results: &[u8], s: Sizes) -> bool
+fn check_guards<W: Write>(
+    out: &mut W,
+    work: &[u8],
+    code: &[u8],
+    results: &[u8],
+    s: Sizes,
+) -> io::Result<bool>
     requires { Lent s work.now code.now results.now }
 {
-    let a = check_sides(work, s.work, b"work before; ", b"work after; ");
-    let b = check_sides(code, s.code, b"code before; ", b"code after; ");
-    let c = check_sides(results, s.results, b"results before; ", b"results after; ");
-    a && b && c
+    let a = check_sides(out, work, s.work, b"work before; ", b"work after; ")?;
+    let b = check_sides(out, code, s.code, b"code before; ", b"code after; ")?;
+    let c = check_sides(
+        out,
+        results,
+        s.results,
+        b"results before; ",
+        b"results after; ",
+    )?;
+    Ok(a && b && c)
 }
 
 // All of what a run leaves.
-pub fn check_all(
+pub fn check_all<W: Write>(
+    alloc: Global,
+    out: &mut W,
     book: &[u8],
     work: &[u8],
     code: &[u8],
     results: &[u8],
     s: Sizes,
     o: Outcome,
-) -> bool
+) -> io::Result<bool>
     requires { Lent s work.now code.now results.now }
 {
-    let a = check_guards(work, code, results, s);
+    let a = check_guards(out, work, code, results, s)?;
     let answer = o.answer;
     let b = if 10 <= lines::number(answer) {
-        check_refused(work, code, results, s)
+        check_refused(out, work, code, results, s)?
     } else {
-        check_run(book, code, results, s, o.written)
+        check_run(alloc, out, book, code, results, s, o.written)?
     };
-    a && b
+    Ok(a && b)
 }

@@ -5,6 +5,8 @@
 // A line that is not `ok` names one thing after the other and ends with `touched`: bytes before or after a lent slice (`work before; `, `code after; `, ..); bytes of a lent memory that
 // a refusal changed (`work refused; `, ..); code bytes that are not the compiled code (`code; `) or lie beyond it (`code rest; `); result bytes beyond those written
 // (`results rest; `); a book or a question that is not as it was read (`book; `, `question; `). A stream cut inside a case ends with `cut`.
+#![tactic(auto)]
+
 ghost use Rattle.std.specs.Prelude.{◌≡◌, ◌≤◌, ◌<◌, length};
 ghost use Rattle.guards.specs.Pattern.{Rooms, Lent};
 
@@ -13,6 +15,9 @@ use leaves::{check_all, say};
 use lines::least;
 use marks::{copy, fill, same};
 use run::{Limits, Outcome};
+use std::alloc::Global;
+use std::io;
+use std::io::{BufReader, BufWriter, Read, Write};
 
 mod leaves;
 mod marks;
@@ -74,7 +79,9 @@ fn fill_all(work: &mut [u8], code: &mut [u8], results: &mut [u8], s: Sizes)
 }
 
 // A case of which this is kept: filled, run and checked.
-fn judge(
+fn judge<W: Write>(
+    alloc: Global,
+    out: &mut W,
     l: Limits,
     book: &[u8],
     question: &[u8],
@@ -82,17 +89,19 @@ fn judge(
     work: &mut [u8],
     code: &mut [u8],
     results: &mut [u8],
-) -> bool
+) -> io::Result<bool>
     requires { Rooms work.old code.old results.old }
 {
     let s = to_lend(l, work, code, results);
     fill_all(work, code, results, s);
     let o = run_between(l, book, question, p, work, code, results, s);
-    check_all(book, work, code, results, s, o)
+    check_all(alloc, out, book, work, code, results, s, o)
 }
 
 // The same, the book and the question compared with what was read.
-fn watch(
+fn watch<W: Write>(
+    alloc: Global,
+    out: &mut W,
     l: Limits,
     book: &[u8],
     question: &[u8],
@@ -100,40 +109,44 @@ fn watch(
     work: &mut [u8],
     code: &mut [u8],
     results: &mut [u8],
-) -> bool
+) -> io::Result<bool>
     requires { (length book.now ≤ 32769) × (length question.now ≤ 65536) × Rooms work.old code.old results.old }
 {
-    let mut book_was = [0u8; 32769];
-    let mut question_was = [0u8; 65536];
+    let mut book_was = vec![in alloc; 0u8; 32769]?;
+    let mut question_was = vec![in alloc; 0u8; 65536]?;
     copy(book, &mut book_was, book.len());
     copy(question, &mut question_was, question.len());
-    let a = judge(l, book, question, p, work, code, results);
-    let b = say(same(book, &book_was, 0, book.len()), b"book; ");
+    let a = judge(alloc, out, l, book, question, p, work, code, results)?;
+    let b = say(out, same(book, &book_was, 0, book.len()), b"book; ")?;
     let c = say(
+        out,
         same(question, &question_was, 0, question.len()),
         b"question; ",
-    );
-    a && b && c
+    )?;
+    Ok(a && b && c)
 }
 
 // The end of a case's line.
-fn finish(fine: bool) -> bool {
+fn finish<W: Write>(out: &mut W, fine: bool) -> io::Result<bool> {
     if fine {
-        io::write_all(1, b"ok\n");
+        out.write_all(b"ok\n")?;
     } else {
-        io::write_all(1, b"touched\n");
+        out.write_all(b"touched\n")?;
     }
-    true
+    Ok(true)
 }
 
 // A stream that ends inside a case.
-fn cut() -> bool {
-    io::write_all(1, b"cut\n");
-    false
+fn cut<W: Write>(out: &mut W) -> io::Result<bool> {
+    out.write_all(b"cut\n")?;
+    Ok(false)
 }
 
 // One case of these limits and lengths; whether to go on.
-fn answer(
+fn answer<R: Read, W: Write>(
+    alloc: Global,
+    input: &mut R,
+    out: &mut W,
     l: Limits,
     b: usize,
     q: usize,
@@ -142,55 +155,81 @@ fn answer(
     work: &mut [u8],
     code: &mut [u8],
     results: &mut [u8],
-) -> bool
+) -> io::Result<bool>
     requires book_len { (length book.old ≡ 32769) × (length question.old ≡ 65536) × Rooms work.old code.old results.old }
     requires q_bound { q < 4294967296 }
 {
-    if !cases::read_book(b, book) {
-        return cut();
+    if !cases::read_book(input, b, book)? {
+        return cut(out);
     }
-    let k = cases::read_question(q, question);
+    let k = cases::read_question(input, q, question)?;
     match k {
         Question::Kept(n, p) => {
             let m = least(b, book.len());
-            finish(watch(l, &book[..m], &question[..n], p, work, code, results))
+            let fine = watch(
+                alloc,
+                out,
+                l,
+                &book[..m],
+                &question[..n],
+                p,
+                work,
+                code,
+                results,
+            )?;
+            finish(out, fine)
         }
-        Question::Cut => cut(),
+        Question::Cut => cut(out),
     }
 }
 
 // The next case; whether to go on.
-fn next(
+fn next<R: Read, W: Write>(
+    alloc: Global,
+    input: &mut R,
+    out: &mut W,
     book: &mut [u8],
     question: &mut [u8],
     work: &mut [u8],
     code: &mut [u8],
     results: &mut [u8],
-) -> bool
+) -> io::Result<bool>
     requires { (length book.old ≡ 32769) × (length question.old ≡ 65536) × Rooms work.old code.old results.old }
 {
-    let h = cases::read_head();
+    let h = cases::read_head(input)?;
     match h {
-        Head::Is(l, b, q) => answer(l, b, q, book, question, work, code, results),
-        Head::Ended => false,
-        Head::Cut => cut(),
+        Head::Is(l, b, q) => answer(
+            alloc, input, out, l, b, q, book, question, work, code, results,
+        ),
+        Head::Ended => Ok(false),
+        Head::Cut => cut(out),
     }
 }
 
 // All cases: a number of turns that no run uses up, since nothing says that the input ends. The memories are the largest that limits in range ask, and 128 bytes.
-fn main() {
-    let mut book_space = [0u8; 32769];
-    let mut question_space = [0u8; 65536];
-    let mut work_space = [0u8; 704640];
-    let mut code_space = [0u8; 262272];
-    let mut results_space = [0u8; 65664];
-    let book: &mut [u8] = &mut book_space;
-    let question: &mut [u8] = &mut question_space;
-    let work: &mut [u8] = &mut work_space;
-    let code: &mut [u8] = &mut code_space;
-    let results: &mut [u8] = &mut results_space;
-    let mut turns = u64::MAX;
-    while turns > 0 && next(book, question, work, code, results) {
-        turns -= 1;
+fn main(rt: HostRuntime) -> io::Result<()> {
+    let mut input = BufReader::new(rt.alloc(), rt.reader())?;
+    let mut out = BufWriter::new(rt.alloc(), io::writer(&rt))?;
+    let mut book = vec![in rt.alloc(); 0u8; 32769]?;
+    let mut question = vec![in rt.alloc(); 0u8; 65536]?;
+    let mut work = vec![in rt.alloc(); 0u8; 704640]?;
+    let mut code = vec![in rt.alloc(); 0u8; 262272]?;
+    let mut results = vec![in rt.alloc(); 0u8; 65664]?;
+    for _ in 0..u64::MAX {
+        let more = next(
+            rt.alloc(),
+            &mut input,
+            &mut out,
+            &mut book,
+            &mut question,
+            &mut work,
+            &mut code,
+            &mut results,
+        )?;
+        out.flush()?;
+        if !more {
+            return Ok(());
+        }
     }
+    Ok(())
 }

@@ -5,6 +5,7 @@ ghost use Rattle.std.specs.Prelude.{◌≡◌, true, ◌+◌, ◌≤◌, length}
 ghost use Rattle.guards.specs.Pattern.{pattern_at, Filled, Same};
 
 // The byte that stands at a place before a run: no two neighbours alike, and no memory of zeros.
+#[tactic(auto, unfolding(crate::specs::Pattern::pattern_at))]
 pub fn pattern(i: usize) -> u8
     ensures { result ≡ pattern_at i }
 {

@@ -1,13 +1,21 @@
 // How an outcome of the run is printed, for the programs.
 // Here, in order: an answer's number and its place; a line's nine numbers; bytes in lower-case hex.
-// Not here: the run (crate run), what is read (the programs). No contract can say what is written.
-ghost use Rattle.std.specs.Prelude.{◌≡◌, ◌≤◌, min, length};
+// Not here: the run (crate run), what is read (the programs).
+#![tactic(auto)]
+
+ghost use Rattle.std.specs.Prelude.{◌≡◌, ◌≤◌, ◌*◌, ◌%◌, min, length, take, false, OnOk};
+ghost use Rattle.std.specs.Fmt.{digit_glyph};
+ghost use Rattle.std.specs.Io.KnownBytes.{Appends};
 ghost use Rattle.engine.specs.Run.{number_of, place_of};
 ghost use Rattle.run.specs.Given.{answer_is};
+ghost use Rattle.lines.specs.Written.{half_of, hex, spaced, told_line};
 
 use run::{Answer, Outcome};
+use std::io;
+use std::io::Write;
 
 // The paper's number of an answer.
+#[tactic(auto, unfolding(engine::specs::Run::number_of, run::specs::Given::answer_is))]
 pub fn number(a: Answer) -> u64
     ensures { result ≡ number_of (answer_is a) }
 {
@@ -25,6 +33,7 @@ pub fn number(a: Answer) -> u64
 }
 
 // The place that an answer gives: the fault's, and 0 where there is none.
+#[tactic(auto, unfolding(engine::specs::Run::place_of, run::specs::Given::answer_is))]
 pub fn place(a: Answer) -> usize
     ensures { result ≡ place_of (answer_is a) }
 {
@@ -42,23 +51,27 @@ pub fn place(a: Answer) -> usize
 }
 
 // One space, then a count.
-fn next(n: u64) {
-    io::write_all(1, b" ");
-    io::print_decimal(1, n);
+fn next<W: Write>(out: &mut W, n: u64) -> io::Result<()>
+    ensures { OnOk result (Appends (W.contents out.old) (W.contents out.new) (spaced n)) }
+{
+    write!(out, " {n}")
 }
 
 // The answer, the place and the seven counts, one space between.
-pub fn print_told(o: Outcome) {
+pub fn print_told<W: Write>(out: &mut W, o: Outcome) -> io::Result<()>
+    ensures { OnOk result (Appends (W.contents out.old) (W.contents out.new) (told_line o)) }
+{
     let a = o.answer;
-    io::print_decimal(1, number(a));
-    next(place(a) as u64);
-    next(o.turns as u64);
-    next(o.nodes);
-    next(o.begun as u64);
-    next(o.split as u64);
-    next(o.values as u64);
-    next(o.failed as u64);
-    next(o.misfits as u64);
+    let n = number(a);
+    write!(out, "{n}")?;
+    next(out, place(a) as u64)?;
+    next(out, o.turns as u64)?;
+    next(out, o.nodes)?;
+    next(out, o.begun as u64)?;
+    next(out, o.split as u64)?;
+    next(out, o.values as u64)?;
+    next(out, o.failed as u64)?;
+    next(out, o.misfits as u64)
 }
 
 // The smaller of two numbers.
@@ -69,13 +82,17 @@ pub fn least(a: usize, b: usize) -> usize
 }
 
 // The hex digit of a number's last four bits.
-fn digit(x: u8) -> u8 {
+fn digit(x: u8) -> u8
+    ensures { result ≡ digit_glyph false (x % 16) }
+{
     let d = x % 16;
     if d < 10 { 48 + d } else { 87 + d }
 }
 
 // The digit of a byte that stands at an even place, the high one, or at an odd place.
-fn half(x: u8, j: usize) -> u8 {
+fn half(x: u8, j: usize) -> u8
+    ensures { result ≡ half_of x j }
+{
     if j % 2 == 0 { digit(x / 16) } else { digit(x) }
 }
 
@@ -84,6 +101,7 @@ fn spell(bytes: &[u8], n: usize, out: &mut [u8])
     requires n_in_bounds { n ≤ length bytes.now }
     requires n_bound { n ≤ 2048 }
     requires in_bounds { 4096 ≤ length out.old }
+    ensures { take (2 * n) out.new ≡ hex (take n bytes.now) }
 {
     let mut j = 0;
     while j < 2 * n {
@@ -93,22 +111,27 @@ fn spell(bytes: &[u8], n: usize, out: &mut [u8])
 }
 
 // The first 2,048 bytes, or as many as there are, in hex, by one write.
-fn print_part(bytes: &[u8]) {
+fn print_part<W: Write>(out: &mut W, bytes: &[u8]) -> io::Result<()>
+    ensures { OnOk result (Appends (W.contents out.old) (W.contents out.new) (hex (take 2048 bytes.now))) }
+{
     let n = least(bytes.len(), 2048);
-    let mut space = io::buffer();
+    let mut space = [0u8; 4096];
     spell(bytes, n, &mut space);
-    io::write_all(1, &space[..2 * n]);
+    out.write_all(&space[..2 * n])
 }
 
 // Bytes in lower-case hex, two digits each, a part of them at a time.
-pub fn print_hex(bytes: &[u8]) {
+pub fn print_hex<W: Write>(out: &mut W, bytes: &[u8]) -> io::Result<()>
+    ensures { OnOk result (Appends (W.contents out.old) (W.contents out.new) (hex bytes.now)) }
+{
     let mut at = 0;
     while at < bytes.len() {
-        print_part(&bytes[at..]);
+        print_part(out, &bytes[at..])?;
         at = if bytes.len() - at < 2048 {
             bytes.len()
         } else {
             at + 2048
         };
     }
+    Ok(())
 }

@@ -4,38 +4,43 @@
 //
 // A case: seven 4-byte little-endian numbers (nodes, pool, budget, results room, code room, book length, question length), the book, the question.
 // Its line: answer, place, the seven counts, then the results in lower-case hex or `-` if there are none. A stream cut inside a case ends with `14 0 0 0 0 0 0 0 0 -`.
+#![tactic(auto)]
+
 ghost use Rattle.std.specs.Prelude.{◌≤◌, ◌<◌, length};
 
 use cases::{Head, Taken};
 use lines::least;
 use run::{Limits, Outcome};
+use std::io;
+use std::io::{BufReader, BufWriter, Read, Write};
 
 // The results in hex, or `-`.
-fn print_results(results: &[u8]) {
+fn print_results<W: Write>(out: &mut W, results: &[u8]) -> io::Result<()> {
     if results.len() == 0 {
-        io::write_all(1, b"-");
-        return;
+        return out.write_all(b"-");
     }
-    lines::print_hex(results);
+    lines::print_hex(out, results)
 }
 
 // The line of an outcome.
-fn print(o: Outcome, results: &[u8]) {
+fn print<W: Write>(out: &mut W, o: Outcome, results: &[u8]) -> io::Result<()> {
     let n = least(o.written, results.len());
-    lines::print_told(o);
-    io::write_all(1, b" ");
-    print_results(&results[..n]);
-    io::write_all(1, b"\n");
+    lines::print_told(out, o)?;
+    out.write_all(b" ")?;
+    print_results(out, &results[..n])?;
+    out.write_all(b"\n")
 }
 
 // A stream that ends inside a case.
-fn cut() -> bool {
-    io::write_all(1, b"14 0 0 0 0 0 0 0 0 -\n");
-    false
+fn cut<W: Write>(out: &mut W) -> io::Result<bool> {
+    out.write_all(b"14 0 0 0 0 0 0 0 0 -\n")?;
+    Ok(false)
 }
 
 // A case, lent of each memory what its limits ask, or all there is; whether to go on.
-fn answer(
+fn answer<R: Read, W: Write>(
+    input: &mut R,
+    out: &mut W,
     l: Limits,
     b: usize,
     q: usize,
@@ -44,13 +49,14 @@ fn answer(
     work: &mut [u8],
     code: &mut [u8],
     results: &mut [u8],
-) -> bool
+) -> io::Result<bool>
     requires { (32769 ≤ length book.old) × (771 ≤ length question.old) × (q < 4294967296) }
 {
     let w = least(cases::work_size(l), work.len());
     let c = least(l.code, code.len());
     let r = least(l.results, results.len());
     let t = cases::take_case(
+        input,
         l,
         b,
         q,
@@ -59,49 +65,60 @@ fn answer(
         &mut work[..w],
         &mut code[..c],
         &mut results[..r],
-    );
+    )?;
     match t {
         Taken::Gave(o) => {
-            print(o, results);
-            true
+            print(out, o, results)?;
+            Ok(true)
         }
-        Taken::Cut => cut(),
+        Taken::Cut => cut(out),
     }
 }
 
 // The next case; whether to go on.
-fn next(
+fn next<R: Read, W: Write>(
+    input: &mut R,
+    out: &mut W,
     book: &mut [u8],
     question: &mut [u8],
     work: &mut [u8],
     code: &mut [u8],
     results: &mut [u8],
-) -> bool
+) -> io::Result<bool>
     requires { (32769 ≤ length book.old) × (771 ≤ length question.old) }
 {
-    let h = cases::read_head();
+    let h = cases::read_head(input)?;
     match h {
-        Head::Is(l, b, q) => answer(l, b, q, book, question, work, code, results),
-        Head::Ended => false,
-        Head::Cut => cut(),
+        Head::Is(l, b, q) => answer(input, out, l, b, q, book, question, work, code, results),
+        Head::Ended => Ok(false),
+        Head::Cut => cut(out),
     }
 }
 
 // All cases: a number of turns that no run uses up, since nothing says that the input ends. The memories are the largest that limits in range ask; of a book one byte more than
 // an accepted one has is kept, and of a question 1,048,576.
-fn main() {
-    let mut book_space = [0u8; 32769];
-    let mut question_space = [0u8; 1048576];
-    let mut work_space = [0u8; 704512];
-    let mut code_space = [0u8; 262144];
-    let mut results_space = [0u8; 65536];
-    let book: &mut [u8] = &mut book_space;
-    let question: &mut [u8] = &mut question_space;
-    let work: &mut [u8] = &mut work_space;
-    let code: &mut [u8] = &mut code_space;
-    let results: &mut [u8] = &mut results_space;
-    let mut turns = u64::MAX;
-    while turns > 0 && next(book, question, work, code, results) {
-        turns -= 1;
+fn main(rt: HostRuntime) -> io::Result<()> {
+    let mut input = BufReader::new(rt.alloc(), rt.reader())?;
+    let mut out = BufWriter::new(rt.alloc(), io::writer(&rt))?;
+    let mut book = vec![in rt.alloc(); 0u8; 32769]?;
+    let mut question = vec![in rt.alloc(); 0u8; 1048576]?;
+    let mut work = vec![in rt.alloc(); 0u8; 704512]?;
+    let mut code = vec![in rt.alloc(); 0u8; 262144]?;
+    let mut results = vec![in rt.alloc(); 0u8; 65536]?;
+    for _ in 0..u64::MAX {
+        let more = next(
+            &mut input,
+            &mut out,
+            &mut book,
+            &mut question,
+            &mut work,
+            &mut code,
+            &mut results,
+        )?;
+        out.flush()?;
+        if !more {
+            return Ok(());
+        }
     }
+    Ok(())
 }
