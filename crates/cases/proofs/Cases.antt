@@ -1,9 +1,9 @@
 -- What the engine gives for all bytes of a case is what it gives for those that are kept, settled by the first pass over all of the question.
 -- Here, in order: a question; a book; the machine's run; the contract.
 -- Assumes nothing.
-use Prim.Native.Nat.{ℕ, ◌≤◌, ◌<◌}
+use Prim.Native.Nat.{ℕ, ◌<◌}
 use mathlib.Core.Path.{◌≡◌, refl, ap, sym, ◌∙◌, subst⁻¹}
-use mathlib.Core.Logic.{◌⊎◌, inl, inr}
+use mathlib.Core.Logic.{inl, inr}
 use mathlib.Core.Bool.{Bool, true, false, ◌&&◌}
 use mathlib.Core.List.{List, [], ◌++◌, append-nil, map}
 use mathlib.Core.Option.{none}
@@ -18,7 +18,6 @@ use Rattle.book.specs.declared.Step.{Step}
 use Rattle.book.specs.declared.Step.TheVariants.{Next, Fault}
 use Rattle.book.specs.Record.{Got, got, fault, scan, any_fits}
 use Rattle.book.specs.Reading.{after, read_right, last, read_alone, read_book, read_question}
-use Rattle.book.specs.Steps.{step}
 use Rattle.book.proofs.Fronts.{step-got, step-fault, after-got, after-fault}
 use Rattle.engine.specs.Compile.{compile}
 use Rattle.engine.specs.Run as e

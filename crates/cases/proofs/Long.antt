@@ -12,22 +12,18 @@ use native.Mathlib.Omega.{arith}
 use borrow.Author.Tests.{ltb-true, leb-true, leb-false, lt-ltb, eqb-true, eqb-false}
 use Rattle.book.specs.Syntax.{Terms, Right, done}
 use Rattle.book.specs.declared.Sort.{Sort}
-use Rattle.book.specs.declared.Sort.TheVariants.{Cut, Range, Unexpected, End}
+use Rattle.book.specs.declared.Sort.TheVariants.{End}
 use Rattle.book.specs.declared.Rec.{Rec}
-use Rattle.book.specs.declared.Rec.TheVariants.{Of, Bad}
-use Rattle.book.specs.declared.Step.{Step}
-use Rattle.book.specs.declared.Step.TheVariants.{Next, Fault}
-use Rattle.book.specs.Record.{Got, got, fault, bodies, body_of, body_byte, rec_at, scan, any_fits}
-use Rattle.book.specs.Reading.{after, make, Case, case, pick, Names, Head, slot_case, read_head, joined, the_one, read_terms, read_right, last, read_alone}
-use Rattle.book.specs.Steps.{step}
+use Rattle.book.specs.declared.Rec.TheVariants.{Of}
+use Rattle.book.specs.Record.{Got, got, fault, bodies, body_of, body_byte, rec_at}
+use Rattle.book.specs.Reading.{after, make, Case, case, pick, Names, Head, slot_case, read_head, joined, the_one, read_terms, read_right, last}
 use Rattle.book.proofs.Records.{rec-of}
 use Rattle.book.proofs.Enough.{room-ends}
 use Rattle.book.proofs.Fairness.{both_hold}
 use Rattle.book.proofs.Fronts.{after-got, after-fault, pick-fit, pick-unfit, pick_next, pick-none}
-use Rattle.cases.specs.declared.Passed.{Passed}
-use Rattle.cases.specs.declared.Passed.TheVariants.{Whole, Begun, Lost}
+use Rattle.cases.specs.declared.Passed.TheVariants.{Whole}
 use Rattle.cases.specs.Parts.{passed, start, found}
-use Rattle.cases.proofs.Passes.{pass-unknown, pass-whole, pass-short, first-pass}
+use Rattle.cases.proofs.Passes.{pass-unknown, pass-whole, pass-short}
 
 -- a body has at most two bytes
 few : Option ℕ → Bool

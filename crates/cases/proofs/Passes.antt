@@ -1,7 +1,7 @@
 -- Laws of the first pass by parts: two parts one behind the other are passed as the whole, and the pass over all bytes finds what book's first pass finds.
 -- Assumes nothing.
 use Prim.Native.Nat.{ℕ, zero, suc, ◌+◌, ◌-◌, ◌≤◌, ◌<◌}
-use mathlib.Core.Path.{◌≡◌, refl, ap, sym, ◌∙◌}
+use mathlib.Core.Path.{◌≡◌, refl, sym, ◌∙◌}
 use mathlib.Core.Bool.{Bool, true, false}
 use mathlib.Core.List.{List, [], ◌∷◌, ◌++◌}
 use mathlib.Core.Option.{Option, none, some}
@@ -11,10 +11,10 @@ use lib.Dec.{ltb, leb}
 use native.Mathlib.Omega.{arith}
 use native.Mathlib.Numerals.{add-one}
 use borrow.Author.Tests.{ltb-true, ltb-false, leb-true, leb-false}
-use Rattle.book.specs.declared.Sort.TheVariants.{Unknown, Cut}
+use Rattle.book.specs.declared.Sort.TheVariants.{Cut}
 use Rattle.book.specs.declared.Step.{Step}
-use Rattle.book.specs.declared.Step.TheVariants.{Next, Fault}
-use Rattle.book.specs.Record.{body_of, rec_at, scan, any_fits}
+use Rattle.book.specs.declared.Step.TheVariants.{Fault}
+use Rattle.book.specs.Record.{body_of, scan, any_fits}
 use Rattle.book.specs.Steps.{step, bad_at}
 use Rattle.book.proofs.Records.{rec-unknown, rec-cut, rec-of}
 use Rattle.book.proofs.Scans.{AnyIs, scan-start, scan-end, scan-bad, scan-any}

@@ -19,7 +19,6 @@ use Rattle.cases.specs.declared.Head.{Head}
 use Rattle.cases.specs.declared.Head.TheVariants as head
 use Rattle.cases.specs.declared.Rest.{Rest}
 use Rattle.cases.specs.declared.Rest.TheVariants as rest
-use Rattle.cases.specs.declared.Taken.{Taken}
 use Rattle.cases.specs.declared.Taken.TheVariants as taken
 use Rattle.cases.specs.Parts.{begun, due, byte, passed, start, reach}
 use Rattle.cases.specs.declared.Question.{Question}

@@ -20,7 +20,7 @@ use Rattle.cases.specs.declared.Question.{Question}
 use Rattle.cases.specs.declared.Question.TheVariants as question
 use Rattle.cases.specs.declared.Taken.{Taken}
 use Rattle.cases.specs.declared.Taken.TheVariants as taken
-use Rattle.cases.specs.Parts.{passed, start, found}
+use Rattle.cases.specs.Parts.{passed, start}
 
 -- the pass stands at no record that is not whole yet
 unfoldable pub AtEnd : Passed → Type 0

@@ -33,14 +33,14 @@ spelled s out n f g h =
     let b = length-take-le n s f in
     let c = length-hex (take n s) in
     same_lists (take (2 * n) out) (hex (take n s)) (omega arith) (λ k d l.
-        let m : k < 2 * n = omega arith in
-        let here : k / 2 < n = omega arith in
-        get_or_default_zero (take (2 * n) out) k d l
-        ∙ get_or-take (2 * n) out k 0 m
-        ∙ h k m
-        ∙ ap (λ (x : ℕ). half_of x k) (sym (get_or-take n s (k / 2) 0 here))
-        ∙ sym (hex-at (take n s) k (omega arith))
-        ∙ sym (get_or_default_zero (hex (take n s)) k d (omega arith)))
+    let m : k < 2 * n = omega arith in
+    let here : k / 2 < n = omega arith in
+    get_or_default_zero (take (2 * n) out) k d l
+    ∙ get_or-take (2 * n) out k 0 m
+    ∙ h k m
+    ∙ ap (λ (x : ℕ). half_of x k) (sym (get_or-take n s (k / 2) 0 here))
+    ∙ sym (hex-at (take n s) k (omega arith))
+    ∙ sym (get_or_default_zero (hex (take n s)) k d (omega arith)))
 
 -- a part of at most m bytes
 pub part : (s : List ℕ) (n m : ℕ) → n ≡ min (length s) m → take n s ≡ take m s
