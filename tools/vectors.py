@@ -71,9 +71,9 @@ def cases(name, numbers, groups):
         "-- Cases that an interpreter written apart has answered, in groups; each case is named by its line in that file.",
         "-- Not here: what a case is (Case), the statements (Outside).",
         "-- Assumes nothing.",
-        "use mathlib.Core.List.{List, [], _∷_}",
-        "use Rattle·book.specs.Answers.{counts, told}",
-        "use Rattle·vectors·specs.specs.Case.{Case, case, limits, bytes}",
+        "use Rattle.std.specs.Prelude.{List, [], ◌∷◌}",
+        "use Rattle.book.specs.Answers.{counts, told}",
+        "use Rattle.vectors.specs.Case.{Case, case, limits, bytes}",
     ]
     for n, g in zip(numbers, groups):
         out += ["", "-- lines %s" % ", ".join(str(v["number"]) for v in g), "abbrev pub group%d : List Case" % n, "group%d =" % n]
@@ -89,11 +89,11 @@ def outside(files):
         "-- %d cases of an interpreter written apart: both readings give the same answer, place, counts and result bytes, by computation." % count,
         "-- Not here: the cases (Cases*), what is compared (Case).",
         "-- Assumes nothing.",
-        "use mathlib.Core.Path.{refl}",
-        "use Rattle·vectors·specs.specs.Case.{expected, outcomes, Agrees}",
+        "use Rattle.std.specs.Prelude.{refl}",
+        "use Rattle.vectors.specs.Case.{expected, outcomes, Agrees}",
     ]
     for name, numbers, _ in files:
-        out.append("use Rattle·vectors·specs.specs.%s.{%s}" % (name, ", ".join("group%d" % n for n in numbers)))
+        out.append("use Rattle.vectors.specs.%s.{%s}" % (name, ", ".join("group%d" % n for n in numbers)))
     for _, numbers, _ in files:
         for n in numbers:
             out += ["", "pub agrees%d : Agrees group%d" % (n, n), "unfolding expected outcomes", "agrees%d = (refl, refl)" % n]

@@ -5,7 +5,7 @@
 // What the engine is not shown. Of a book over 32,768 bytes it sees 32,769 or more: the answer depends only on the length being over 32,768. Of a question that is longer than
 // what is kept it sees the whole records there, and the rest is looked at as it passes: the first pass decides by an unknown kind or a cut body anywhere, and where it finds
 // none, the reading stops at a fault in the first 768 bytes, since a RIGHT and its term have no more and nothing may follow them.
-ghost use Rattle.std.specs.Prelude.{◌≡◌, ◌≤◌, ◌<◌, length, IfOk};
+ghost use Rattle.std.specs.Prelude.{◌≡◌, ◌≤◌, ◌<◌, length, IfOk, OnErr};
 ghost use Rattle.engine.specs.Run.{work_size};
 ghost use Rattle.run.specs.Given.{answer_is, limits_of};
 ghost use Rattle.cases.specs.Parts.{found};
@@ -84,7 +84,7 @@ pub fn work_size(l: Limits) -> usize
     40 * least(l.nodes, 16384) + 40 * least(l.pool, 1024) + 8192
 }
 
-// A case of these limits, with a book of b bytes and a question of q, read and run.
+// A case of these limits, with a book of b bytes and a question of q, read and run. An error is the reader's: nothing was run.
 pub fn take_case<R: Read>(
     input: &mut R,
     l: Limits,
@@ -97,7 +97,8 @@ pub fn take_case<R: Read>(
     results: &mut [u8],
 ) -> io::Result<Taken>
     requires { (32769 ≤ length book.old) × (771 ≤ length question.old) × (q < 4294967296) }
-    ensures { IfOk result (λ t. TakenIs l b q t work.old work.new code.old code.new results.old results.new) }
+    ensures taken { IfOk result (λ t. TakenIs l b q t work.old work.new code.old code.new results.old results.new) }
+    ensures err { OnErr result ((work.new ≡ work.old) × (code.new ≡ code.old) × (results.new ≡ results.old)) }
 {
     if !read_book(input, b, book)? {
         return Ok(Taken::Cut);
