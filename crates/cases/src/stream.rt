@@ -1,11 +1,13 @@
 // A case's bytes, read from a stream.
 // Here, in order: its numbers; bytes that are passed over; a book; a question, of which the rest is looked at as it passes.
 // Not here: the first pass (passing), the run (whole). No contract can say which bytes are read.
+// Whatever a reading answers, the input has lost some bytes at its front, and nothing else.
 //
 // A case: seven 4-byte little-endian numbers (nodes, pool, budget, results room, code room, book length, question length), the book, the question.
 ghost use Rattle.std.specs.Prelude.{◌≡◌, ◌≤◌, ◌<◌, ◌+◌, length, IfOk};
 ghost use Rattle.cases.specs.Parts.{reach};
 ghost use Rattle.cases.specs.Whole.{whole_part, HeadIs, RestIs, PartOf, QuestionIs};
+ghost use Rattle.input.specs.Reading.{Lost};
 
 use crate::passing::pass_part;
 use crate::{Head, Passed, Question, Rest};
@@ -49,7 +51,8 @@ fn limits(head: &[u8]) -> Limits
 // The numbers of the next case.
 #[tactic(auto, unfolding(crate::specs::Whole::HeadIs))]
 pub fn read_head<R: Read>(input: &mut R) -> io::Result<Head>
-    ensures { IfOk result HeadIs }
+    ensures read { IfOk result HeadIs }
+    ensures lost { Lost (R.remaining input.old) (R.remaining input.new) }
 {
     let mut head = [0u8; 28];
     let n = read_full(input, &mut head)?;
@@ -66,14 +69,17 @@ pub fn read_head<R: Read>(input: &mut R) -> io::Result<Head>
 
 // Reads at most n bytes into a chunk, and answers how many: 0 where the input ends.
 fn pass<R: Read>(input: &mut R, n: usize, chunk: &mut [u8]) -> io::Result<usize>
-    ensures { IfOk result (λ m. (m ≤ n) × (m ≤ length chunk.new)) }
+    ensures read { IfOk result (λ m. (m ≤ n) × (m ≤ length chunk.new)) }
+    ensures lost { Lost (R.remaining input.old) (R.remaining input.new) }
 {
     let m = least(n, chunk.len());
     read_full(input, &mut chunk[..m])
 }
 
 // Passes over n bytes; whether there are as many.
-fn skip<R: Read>(input: &mut R, n: usize) -> io::Result<bool> {
+fn skip<R: Read>(input: &mut R, n: usize) -> io::Result<bool>
+    ensures lost { Lost (R.remaining input.old) (R.remaining input.new) }
+{
     let mut space = [0u8; 4096];
     let chunk: &mut [u8] = &mut space;
     let mut left = n;
@@ -88,7 +94,9 @@ fn skip<R: Read>(input: &mut R, n: usize) -> io::Result<bool> {
 }
 
 // Reads a book of b bytes, of which it keeps what there is room for; whether there are as many.
-pub fn read_book<R: Read>(input: &mut R, b: usize, book: &mut [u8]) -> io::Result<bool> {
+pub fn read_book<R: Read>(input: &mut R, b: usize, book: &mut [u8]) -> io::Result<bool>
+    ensures lost { Lost (R.remaining input.old) (R.remaining input.new) }
+{
     let m = least(b, book.len());
     let got = read_full(input, &mut book[..m])?;
     if got < m {
@@ -100,7 +108,8 @@ pub fn read_book<R: Read>(input: &mut R, b: usize, book: &mut [u8]) -> io::Resul
 // Passes over n bytes of a question, its first pass going on over them.
 fn pass_rest<R: Read>(input: &mut R, p: Passed, n: usize) -> io::Result<Rest>
     requires { reach p + n < 18446744073709551616 }
-    ensures { IfOk result (RestIs p n) }
+    ensures read { IfOk result (RestIs p n) }
+    ensures lost { Lost (R.remaining input.old) (R.remaining input.new) }
 {
     let mut space = [0u8; 4096];
     let chunk: &mut [u8] = &mut space;
@@ -132,7 +141,8 @@ fn whole_part(p: Passed, m: usize) -> usize
 // A question of q bytes, of which a part was read: looks at the rest.
 fn look_on<R: Read>(input: &mut R, part: &[u8], q: usize) -> io::Result<Question>
     requires { PartOf part.now q }
-    ensures { IfOk result (QuestionIs part.now q) }
+    ensures read { IfOk result (QuestionIs part.now q) }
+    ensures lost { Lost (R.remaining input.old) (R.remaining input.new) }
 {
     let p = pass_part(Passed::Whole(0), part);
     let m = part.len();
@@ -149,7 +159,8 @@ fn look_on<R: Read>(input: &mut R, part: &[u8], q: usize) -> io::Result<Question
 // Reads a question of q bytes, of which it keeps what there is room for.
 pub fn read_question<R: Read>(input: &mut R, q: usize, question: &mut [u8]) -> io::Result<Question>
     requires { (771 ≤ length question.old) × (q < 4294967296) }
-    ensures { IfOk result (QuestionIs question.new q) }
+    ensures read { IfOk result (QuestionIs question.new q) }
+    ensures lost { Lost (R.remaining input.old) (R.remaining input.new) }
 {
     let m = least(q, question.len());
     let got = read_full(input, &mut question[..m])?;

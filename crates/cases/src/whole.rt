@@ -10,6 +10,7 @@ ghost use Rattle.engine.specs.Run.{work_size};
 ghost use Rattle.run.specs.Given.{answer_is, limits_of};
 ghost use Rattle.cases.specs.Parts.{found};
 ghost use Rattle.cases.specs.Whole.{first, settled, CaseRan, TakenIs};
+ghost use Rattle.input.specs.Reading.{Lost};
 
 use crate::stream::{read_book, read_question};
 use crate::{Passed, Question, Taken};
@@ -99,6 +100,7 @@ pub fn take_case<R: Read>(
     requires { (32769 ≤ length book.old) × (771 ≤ length question.old) × (q < 4294967296) }
     ensures taken { IfOk result (λ t. TakenIs l b q t work.old work.new code.old code.new results.old results.new) }
     ensures err { OnErr result ((work.new ≡ work.old) × (code.new ≡ code.old) × (results.new ≡ results.old)) }
+    ensures lost { Lost (R.remaining input.old) (R.remaining input.new) }
 {
     if !read_book(input, b, book)? {
         return Ok(Taken::Cut);

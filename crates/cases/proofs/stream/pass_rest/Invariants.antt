@@ -1,8 +1,12 @@
+use Rattle.input.specs.Reading.{Lost}
 use Rattle.cases.proofs.Reading.{Passing}
 use Rattle.cases.proofs.stream.pass_rest.Given as goal
 
 abbrev pub invariant-loop-left : goal.invariant-loop-left
-invariant-loop-left g l = Passing l.initial.so_far l.n l.left l.so_far
+invariant-loop-left g l = record {
+  passing : Passing l.initial.so_far l.n l.left l.so_far;
+  lost : Lost (g.R.Read.remaining l.initial.input) (g.R.Read.remaining l.input);
+}
 
 abbrev pub decreases-loop-left : goal.decreases-loop-left
 decreases-loop-left g l = l.left
