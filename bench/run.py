@@ -2,7 +2,7 @@
 """run.py [--ours FILE] [--checks FILE] [--books A,B]: what a turn and a node cost, ours beside unproved renderings of the same machine, as the tables of docs/PERFORMANCE.md. Not in the gate.
 
 Counted are instructions, by callgrind: they do not depend on what else the machine does. A case is run with its budget and with budget 0: the first less the second is what its turns cost, with the line
-that is printed; the second less an empty stream is what comes before (reading the case, the checks, the compiler, memory made ready). Ours is crates/shelf/out/shelf, which `rt run` in crates/shelf leaves; the others are
+that is printed; the second less an empty stream is what comes before (reading the case, the checks, the compiler, memory made ready). Ours is crates/shelf/out/shelf, which `rt ci` leaves, or `rt run </dev/null` in crates/shelf; the others are
 built here: tests/second (plain Rust, `rustc -O`, its machine and its plain reading) and bench/fast.c (C, `gcc -O3`, written for speed). The lines that they print must be the same.
 Then the stack, by massif: the most that a program has of it, less what it has on an empty stream. The deepest tree that is accepted has 64 SPLITs, one below the other, of types with 32 constructors."""
 import os
@@ -19,6 +19,8 @@ sys.path.insert(0, HERE)
 import books
 
 SIZES = [("nrev", (30, 60, 120)), ("fib", (10, 13, 15)), ("colour", (4, 6, 8)), ("perm", (3, 4, 5)), ("back", (400, 800, 1600)), ("lazy", (256, 512, 1024)), ("chain", (256, 512, 1024))]
+# the bytes of what main lends in crates/shelf: book, question, work, code, results
+LENT = 32769 + 1048576 + 704512 + 262144 + 65536
 
 
 def run(words, data):
@@ -109,7 +111,7 @@ def main():
     tell(*["---"] * 5)
     tell("checks: check_book, check_question", *depths(checks, asked))
     tell("shelf: run", *depths(ours, books.case))
-    print("\nshelf on an empty stream: {:,} bytes".format(stack(ours, b"")))
+    print("\nshelf on an empty stream, beyond what it lends: {:,} bytes".format(stack(ours, b"") - LENT))
 
 
 if __name__ == "__main__":

@@ -11,9 +11,8 @@ ghost use Rattle.std.specs.Prelude.{◌≤◌};
 
 use input::read_full;
 use run::{Limits, Outcome};
-use std::alloc::Global;
 use std::io;
-use std::io::{BufWriter, Write};
+use std::io::Write;
 
 // The limits of document 01's program.
 fn limits() -> Limits {
@@ -43,10 +42,10 @@ fn refuse<W: Write>(out: &mut W) -> io::Result<()> {
 }
 
 // The run of a question: work memory is 40 x 1,600 + 40 x 64 + 8,192 bytes.
-fn judge<W: Write>(alloc: Global, out: &mut W, book: &[u8], question: &[u8]) -> io::Result<()> {
-    let mut work = vec![in alloc; 0u8; 74752]?;
-    let mut code = vec![in alloc; 0u8; 16384]?;
-    let mut results = vec![in alloc; 0u8; 4096]?;
+fn judge<W: Write>(out: &mut W, book: &[u8], question: &[u8]) -> io::Result<()> {
+    let mut work = [0u8; 74752];
+    let mut code = [0u8; 16384];
+    let mut results = [0u8; 4096];
     let o = run::run(book, question, limits(), &mut work, &mut code, &mut results);
     print(out, o, &results)
 }
@@ -59,15 +58,15 @@ fn wide(x: u8) -> usize
 }
 
 // The book of this length and the question after it.
-fn divide<W: Write>(alloc: Global, out: &mut W, b: usize, rest: &[u8]) -> io::Result<()> {
+fn divide<W: Write>(out: &mut W, b: usize, rest: &[u8]) -> io::Result<()> {
     if rest.len() < b {
         return refuse(out);
     }
-    judge(alloc, out, &rest[..b], &rest[b..])
+    judge(out, &rest[..b], &rest[b..])
 }
 
 // All of the input.
-fn answer<W: Write>(alloc: Global, out: &mut W, input: &[u8]) -> io::Result<()> {
+fn answer<W: Write>(out: &mut W, input: &[u8]) -> io::Result<()> {
     if input.len() < 2 {
         return refuse(out);
     }
@@ -75,14 +74,12 @@ fn answer<W: Write>(alloc: Global, out: &mut W, input: &[u8]) -> io::Result<()> 
         return refuse(out);
     }
     let b = wide(input[0]) + 256 * wide(input[1]);
-    divide(alloc, out, b, &input[2..])
+    divide(out, b, &input[2..])
 }
 
 // The input's bytes, and one more where there is one.
 fn main(rt: HostRuntime) -> io::Result<()> {
-    let mut out = BufWriter::new(rt.alloc(), io::writer(&rt))?;
-    let mut input = vec![in rt.alloc(); 0u8; 33283]?;
+    let mut input = [0u8; 33283];
     let n = read_full(&mut rt.reader(), &mut input)?;
-    answer(rt.alloc(), &mut out, &input[..n])?;
-    out.flush()
+    answer(&mut io::writer(&rt), &input[..n])
 }

@@ -1,6 +1,6 @@
 // A case's bytes, read from a stream.
 // Here, in order: its numbers; bytes that are passed over; a book; a question, of which the rest is looked at as it passes.
-// Not here: the first pass (passing), the run (whole). No contract can say which bytes are read.
+// Not here: the first pass (passing), the run (whole). No contract can say what standard input gives.
 // Whatever a reading answers, the input has lost some bytes at its front, and nothing else.
 //
 // A case: seven 4-byte little-endian numbers (nodes, pool, budget, results room, code room, book length, question length), the book, the question.

@@ -13,7 +13,7 @@ ghost use Rattle.checks.specs.Line.{answer_of, place_of};
 use book::{Sort, Verdict};
 use input::read_full;
 use std::io;
-use std::io::{BufReader, BufWriter, Read, Write};
+use std::io::{Read, Write};
 
 // A byte as a number.
 fn wide(x: u8) -> usize
@@ -178,14 +178,12 @@ fn next<R: Read, W: Write>(
 
 // All cases: a number of turns that no run uses up, since nothing says that the input ends.
 fn main(rt: HostRuntime) -> io::Result<()> {
-    let mut input = BufReader::new(rt.alloc(), rt.reader())?;
-    let mut out = BufWriter::new(rt.alloc(), io::writer(&rt))?;
-    let mut book = vec![in rt.alloc(); 0u8; 65536]?;
-    let mut question = vec![in rt.alloc(); 0u8; 65536]?;
+    let mut input = rt.reader();
+    let mut out = io::writer(&rt);
+    let mut book = [0u8; 65536];
+    let mut question = [0u8; 65536];
     for _ in 0..u64::MAX {
-        let more = next(&mut input, &mut out, &mut book, &mut question)?;
-        out.flush()?;
-        if !more {
+        if !next(&mut input, &mut out, &mut book, &mut question)? {
             return Ok(());
         }
     }

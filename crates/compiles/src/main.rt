@@ -6,13 +6,12 @@
 // Its line: `0 0 LENGTH HEX`, the code's length and bytes, `-` where there are none or more than 262,144; `11 PLACE 0 -` for a book at fault.
 #![tactic(auto)]
 
-ghost use Rattle.std.specs.Prelude.{◌≡◌, ◌≤◌, ◌<◌, ◌+◌, ◌*◌, length, IfOk, vec_len};
+ghost use Rattle.std.specs.Prelude.{◌≡◌, ◌≤◌, ◌<◌, ◌+◌, ◌*◌, length};
 
 use compiler::Compiled;
 use input::read_full;
-use std::alloc::{AllocError, Global};
 use std::io;
-use std::io::{BufReader, BufWriter, Read, Write};
+use std::io::{Read, Write};
 
 // A byte as a number.
 fn wide(x: u8) -> usize
@@ -187,31 +186,29 @@ fn next<R: Read, W: Write>(
 }
 
 // Room for the longest code.
-fn code_room(alloc: Global) -> Result<Vec<u8>, AllocError>
-    ensures { IfOk result (λ v. 262144 ≡ vec_len v) }
+fn code_room() -> [u8; 262144]
+    ensures { 262144 ≡ length result }
 {
-    vec![in alloc; 0u8; 262144]
+    [0; 262144]
 }
 
 // All books: a number of turns that no run uses up, since nothing says that the input ends.
 fn main(rt: HostRuntime) -> io::Result<()> {
-    let mut input = BufReader::new(rt.alloc(), rt.reader())?;
-    let mut out = BufWriter::new(rt.alloc(), io::writer(&rt))?;
-    let mut book = vec![in rt.alloc(); 0u8; 65536]?;
+    let mut input = rt.reader();
+    let mut out = io::writer(&rt);
+    let mut book = [0u8; 65536];
     let mut tables = [0u8; 4096];
-    let mut code = code_room(rt.alloc())?;
+    let mut code = code_room();
     let mut chunk = [0u8; 4096];
     for _ in 0..u64::MAX {
-        let more = next(
+        if !next(
             &mut input,
             &mut out,
             &mut book,
             &mut tables,
             &mut code,
             &mut chunk,
-        )?;
-        out.flush()?;
-        if !more {
+        )? {
             return Ok(());
         }
     }

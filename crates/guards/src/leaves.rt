@@ -1,7 +1,7 @@
 // What a run leaves, checked: each memory lent with 64 bytes on both sides, all of it filled before.
 // Here, in order: what is named; one memory's guards and its lent bytes; the code; a refusal; another run; all of it.
 // Not here: the pattern (marks), the run (main).
-ghost use Rattle.std.specs.Prelude.{◌≡◌, ◌+◌, ◌≤◌, length, IfOk, vec_len};
+ghost use Rattle.std.specs.Prelude.{◌≡◌, ◌+◌, ◌≤◌, length, IfOk, IsOk, IsTrue};
 ghost use Rattle.guards.specs.Pattern.{Lent};
 
 use crate::Sizes;
@@ -9,13 +9,13 @@ use crate::marks::{intact, same};
 use compiler::Compiled;
 use lines::least;
 use run::Outcome;
-use std::alloc::{AllocError, Global};
 use std::io;
 use std::io::Write;
 
 // Names what is not as it should be; whether all is.
 pub fn say<W: Write>(out: &mut W, fine: bool, what: &[u8]) -> io::Result<bool>
-    ensures { IfOk result (λ b. b ≡ fine) }
+    ensures told { IfOk result (λ b. b ≡ fine) }
+    ensures silent { IsTrue fine → IsOk result }
 {
     if fine {
         return Ok(true);
@@ -71,24 +71,18 @@ fn check_written<W: Write>(
 }
 
 // Room for the longest code.
-fn code_room(alloc: Global) -> Result<Vec<u8>, AllocError>
-    ensures { IfOk result (λ v. 262144 ≡ vec_len v) }
+fn code_room() -> [u8; 262144]
+    ensures { 262144 ≡ length result }
 {
-    vec![in alloc; 0u8; 262144]
+    [0; 262144]
 }
 
 // The same, the code compiled here once more.
-fn check_code<W: Write>(
-    alloc: Global,
-    out: &mut W,
-    book: &[u8],
-    code: &[u8],
-    c: usize,
-) -> io::Result<bool>
+fn check_code<W: Write>(out: &mut W, book: &[u8], code: &[u8], c: usize) -> io::Result<bool>
     requires { c + 128 ≤ length code.now }
 {
     let mut tables = [0u8; 4096];
-    let mut own = code_room(alloc)?;
+    let mut own = code_room();
     let r = compiler::compile_into(book, &mut tables, &mut own, 262144);
     match r {
         Compiled::Fits(n) => check_written(out, &own, n, code, c),
@@ -115,7 +109,6 @@ fn check_refused<W: Write>(
 
 // What another run leaves: the code's bytes, result bytes beyond those written.
 fn check_run<W: Write>(
-    alloc: Global,
     out: &mut W,
     book: &[u8],
     code: &[u8],
@@ -125,7 +118,7 @@ fn check_run<W: Write>(
 ) -> io::Result<bool>
     requires { (s.code + 128 ≤ length code.now) × (s.results + 128 ≤ length results.now) }
 {
-    let a = check_code(alloc, out, book, code, s.code)?;
+    let a = check_code(out, book, code, s.code)?;
     let n = s.results;
     let b = check_from(out, results, least(written, n), n, b"results rest; ")?;
     Ok(a && b)
@@ -155,7 +148,6 @@ fn check_guards<W: Write>(
 
 // All of what a run leaves.
 pub fn check_all<W: Write>(
-    alloc: Global,
     out: &mut W,
     book: &[u8],
     work: &[u8],
@@ -171,7 +163,7 @@ pub fn check_all<W: Write>(
     let b = if 10 <= lines::number(answer) {
         check_refused(out, work, code, results, s)?
     } else {
-        check_run(alloc, out, book, code, results, s, o.written)?
+        check_run(out, book, code, results, s, o.written)?
     };
     Ok(a && b)
 }

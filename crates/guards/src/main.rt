@@ -15,9 +15,8 @@ use leaves::{check_all, say};
 use lines::least;
 use marks::{copy, fill, same};
 use run::{Limits, Outcome};
-use std::alloc::Global;
 use std::io;
-use std::io::{BufReader, BufWriter, Read, Write};
+use std::io::{Read, Write};
 
 mod leaves;
 mod marks;
@@ -80,7 +79,6 @@ fn fill_all(work: &mut [u8], code: &mut [u8], results: &mut [u8], s: Sizes)
 
 // A case of which this is kept: filled, run and checked.
 fn judge<W: Write>(
-    alloc: Global,
     out: &mut W,
     l: Limits,
     book: &[u8],
@@ -95,12 +93,11 @@ fn judge<W: Write>(
     let s = to_lend(l, work, code, results);
     fill_all(work, code, results, s);
     let o = run_between(l, book, question, p, work, code, results, s);
-    check_all(alloc, out, book, work, code, results, s, o)
+    check_all(out, book, work, code, results, s, o)
 }
 
 // The same, the book and the question compared with what was read.
 fn watch<W: Write>(
-    alloc: Global,
     out: &mut W,
     l: Limits,
     book: &[u8],
@@ -112,11 +109,11 @@ fn watch<W: Write>(
 ) -> io::Result<bool>
     requires { (length book.now ≤ 32769) × (length question.now ≤ 65536) × Rooms work.old code.old results.old }
 {
-    let mut book_was = vec![in alloc; 0u8; 32769]?;
-    let mut question_was = vec![in alloc; 0u8; 65536]?;
+    let mut book_was = [0u8; 32769];
+    let mut question_was = [0u8; 65536];
     copy(book, &mut book_was, book.len());
     copy(question, &mut question_was, question.len());
-    let a = judge(alloc, out, l, book, question, p, work, code, results)?;
+    let a = judge(out, l, book, question, p, work, code, results)?;
     let b = say(out, same(book, &book_was, 0, book.len()), b"book; ")?;
     let c = say(
         out,
@@ -144,7 +141,6 @@ fn cut<W: Write>(out: &mut W) -> io::Result<bool> {
 
 // One case of these limits and lengths; whether to go on.
 fn answer<R: Read, W: Write>(
-    alloc: Global,
     input: &mut R,
     out: &mut W,
     l: Limits,
@@ -166,17 +162,7 @@ fn answer<R: Read, W: Write>(
     match k {
         Question::Kept(n, p) => {
             let m = least(b, book.len());
-            let fine = watch(
-                alloc,
-                out,
-                l,
-                &book[..m],
-                &question[..n],
-                p,
-                work,
-                code,
-                results,
-            )?;
+            let fine = watch(out, l, &book[..m], &question[..n], p, work, code, results)?;
             finish(out, fine)
         }
         Question::Cut => cut(out),
@@ -185,7 +171,6 @@ fn answer<R: Read, W: Write>(
 
 // The next case; whether to go on.
 fn next<R: Read, W: Write>(
-    alloc: Global,
     input: &mut R,
     out: &mut W,
     book: &mut [u8],
@@ -198,9 +183,7 @@ fn next<R: Read, W: Write>(
 {
     let h = cases::read_head(input)?;
     match h {
-        Head::Is(l, b, q) => answer(
-            alloc, input, out, l, b, q, book, question, work, code, results,
-        ),
+        Head::Is(l, b, q) => answer(input, out, l, b, q, book, question, work, code, results),
         Head::Ended => Ok(false),
         Head::Cut => cut(out),
     }
@@ -208,16 +191,15 @@ fn next<R: Read, W: Write>(
 
 // All cases: a number of turns that no run uses up, since nothing says that the input ends. The memories are the largest that limits in range ask, and 128 bytes.
 fn main(rt: HostRuntime) -> io::Result<()> {
-    let mut input = BufReader::new(rt.alloc(), rt.reader())?;
-    let mut out = BufWriter::new(rt.alloc(), io::writer(&rt))?;
-    let mut book = vec![in rt.alloc(); 0u8; 32769]?;
-    let mut question = vec![in rt.alloc(); 0u8; 65536]?;
-    let mut work = vec![in rt.alloc(); 0u8; 704640]?;
-    let mut code = vec![in rt.alloc(); 0u8; 262272]?;
-    let mut results = vec![in rt.alloc(); 0u8; 65664]?;
+    let mut input = rt.reader();
+    let mut out = io::writer(&rt);
+    let mut book = [0u8; 32769];
+    let mut question = [0u8; 65536];
+    let mut work = [0u8; 704640];
+    let mut code = [0u8; 262272];
+    let mut results = [0u8; 65664];
     for _ in 0..u64::MAX {
-        let more = next(
-            rt.alloc(),
+        if !next(
             &mut input,
             &mut out,
             &mut book,
@@ -225,9 +207,7 @@ fn main(rt: HostRuntime) -> io::Result<()> {
             &mut work,
             &mut code,
             &mut results,
-        )?;
-        out.flush()?;
-        if !more {
+        )? {
             return Ok(());
         }
     }

@@ -12,7 +12,7 @@ use cases::{Head, Taken};
 use lines::least;
 use run::{Limits, Outcome};
 use std::io;
-use std::io::{BufReader, BufWriter, Read, Write};
+use std::io::{Read, Write};
 
 // The results in hex, or `-`.
 fn print_results<W: Write>(out: &mut W, results: &[u8]) -> io::Result<()> {
@@ -98,15 +98,15 @@ fn next<R: Read, W: Write>(
 // All cases: a number of turns that no run uses up, since nothing says that the input ends. The memories are the largest that limits in range ask; of a book one byte more than
 // an accepted one has is kept, and of a question 1,048,576.
 fn main(rt: HostRuntime) -> io::Result<()> {
-    let mut input = BufReader::new(rt.alloc(), rt.reader())?;
-    let mut out = BufWriter::new(rt.alloc(), io::writer(&rt))?;
-    let mut book = vec![in rt.alloc(); 0u8; 32769]?;
-    let mut question = vec![in rt.alloc(); 0u8; 1048576]?;
-    let mut work = vec![in rt.alloc(); 0u8; 704512]?;
-    let mut code = vec![in rt.alloc(); 0u8; 262144]?;
-    let mut results = vec![in rt.alloc(); 0u8; 65536]?;
+    let mut input = rt.reader();
+    let mut out = io::writer(&rt);
+    let mut book = [0u8; 32769];
+    let mut question = [0u8; 1048576];
+    let mut work = [0u8; 704512];
+    let mut code = [0u8; 262144];
+    let mut results = [0u8; 65536];
     for _ in 0..u64::MAX {
-        let more = next(
+        if !next(
             &mut input,
             &mut out,
             &mut book,
@@ -114,9 +114,7 @@ fn main(rt: HostRuntime) -> io::Result<()> {
             &mut work,
             &mut code,
             &mut results,
-        )?;
-        out.flush()?;
-        if !more {
+        )? {
             return Ok(());
         }
     }

@@ -1,5 +1,5 @@
-use Rattle.std.proofs.Common.{◌≤◌, vec_len}
+use Rattle.std.proofs.Common.{◌≤◌, length}
 use Rattle.shelf.proofs.main.Given as goal
 
 abbrev pub invariant-loop : goal.invariant-loop
-invariant-loop l = (32769 ≤ vec_len l.book) × (771 ≤ vec_len l.question)
+invariant-loop l = (32769 ≤ length l.book) × (771 ≤ length l.question)
