@@ -1,6 +1,6 @@
 // The program of document 01: one book and one question from standard input, two lines to standard output.
 // Here, in order: the limits; the two lines; the input taken apart; the program.
-// Not here: the run (crate run), how an outcome is printed (crate lines). No contract can say what is read or written.
+// Not here: the run (crate run), how an outcome is printed (crate lines). No contract can say what standard input gives or standard output takes.
 //
 // The input: the book's length (2 bytes, little-endian), the book, the question.
 // Line one: the answer, the place, the seven counts. Line two: the results in lower-case hex. Input under 2 bytes, over 33,282 or shorter than the book it announces

@@ -1,6 +1,6 @@
 // The two checks on a stream of cases from standard input, a line for each case.
 // Here, in order: what is printed of a verdict; a case's bytes; a case; all of them.
-// Not here: the checks (crate book). No contract can say what is read or written.
+// Not here: the checks (crate book). No contract can say what standard input gives or standard output takes.
 //
 // A case: the book's length and the question's (4 bytes each, little-endian), the book, the question.
 // Its line: number, place and sort of the book check, then of the question check; `14 0 0 14 0 0` for a length above 65,536.

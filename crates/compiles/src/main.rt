@@ -1,6 +1,6 @@
 // The compiler on a stream of books from standard input, a line for each book.
 // Here, in order: bytes in hex; what is printed of a book; a book's bytes; all of them.
-// Not here: the compiler (crate compiler). No contract can say what is read or written.
+// Not here: the compiler (crate compiler). No contract can say what standard input gives or standard output takes.
 //
 // A case: the book's length (4 bytes, little-endian), the book.
 // Its line: `0 0 LENGTH HEX`, the code's length and bytes, `-` where there are none or more than 262,144; `11 PLACE 0 -` for a book at fault.

@@ -1,6 +1,6 @@
 // A shelf of cases from standard input, each run on slices that lie in the middle of larger memories: a line for each, `ok` or what was touched and should not have been.
 // Here, in order: how much is lent; the run between guards; a case; all cases. The modules, lowest first: marks, leaves.
-// Not here: the stream (crate cases), the run (crate run). That nothing else is touched is proved; here it is seen from outside. No contract can say what is read or written.
+// Not here: the stream (crate cases), the run (crate run). That nothing else is touched is proved; here it is seen from outside. No contract can say what standard input gives or standard output takes.
 //
 // A line that is not `ok` names one thing after the other and ends with `touched`: bytes before or after a lent slice (`work before; `, `code after; `, ..); bytes of a lent memory that
 // a refusal changed (`work refused; `, ..); code bytes that are not the compiled code (`code; `) or lie beyond it (`code rest; `); result bytes beyond those written

@@ -1,6 +1,6 @@
 // A shelf of cases from standard input, a line for each: how a second interpreter is run against ours.
 // Here, in order: a case's line; a case, with the memory lent; all cases.
-// Not here: how a case is read and what of it the engine sees (crate cases), how an outcome is printed (crate lines). No contract can say what is read or written.
+// Not here: how a case is read and what of it the engine sees (crate cases), how an outcome is printed (crate lines). No contract can say what standard input gives or standard output takes.
 //
 // A case: seven 4-byte little-endian numbers (nodes, pool, budget, results room, code room, book length, question length), the book, the question.
 // Its line: answer, place, the seven counts, then the results in lower-case hex or `-` if there are none. A stream cut inside a case ends with `14 0 0 0 0 0 0 0 0 -`.
