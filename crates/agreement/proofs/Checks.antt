@@ -7,9 +7,7 @@ use mathlib.Core.Path.{◌≡◌}
 use mathlib.Core.Logic.{◌⊎◌, inl, inr, ◌≢◌}
 use mathlib.Core.Bool.{true, ◌&&◌}
 use mathlib.Core.List.{List}
-use Rattle.book.specs.declared.Verdict.{Verdict}
-use Rattle.book.specs.declared.Verdict.TheVariants.{Accepted}
-use Rattle.book.specs.Answers.{told_of, on_book, check_book, on_question, on_both, check_question}
+use Rattle.book.specs.Answers.{Verdict, accepted, told_of, on_book, check_book, on_question, on_both, check_question}
 use Rattle.engine.specs.Run.{Limits, Lent, in_range, lent_fits, number_of, place_of, Outcome, tells, refused, plain, machine}
 use Rattle.agreement.proofs.Runs.{agree}
 use Rattle.agreement.proofs.Refusals.{Case, at-limits, at-book, at-question, at_code, runs, case}
@@ -21,11 +19,11 @@ answered o = number_of (answer_of o)
 
 -- the book is accepted and the answer is not 11; or it is 11, and the check tells what the run tells
 abbrev pub BookAgrees : Verdict → Outcome → Type 0
-BookAgrees v o = ((v ≡ Accepted) × (answered o ≢ 11)) ⊎ ((told_of v ≡ tells o) × (answered o ≡ 11))
+BookAgrees v o = ((v ≡ accepted) × (answered o ≢ 11)) ⊎ ((told_of v ≡ tells o) × (answered o ≡ 11))
 
 -- the question is accepted and the answer is neither 11 nor 12; or it is one of them, and the check tells what the run tells
 abbrev pub QuestionAgrees : Verdict → Outcome → Type 0
-QuestionAgrees v o = ((v ≡ Accepted) × (answered o ≢ 11) × (answered o ≢ 12)) ⊎ ((told_of v ≡ tells o) × ((answered o ≡ 11) ⊎ (answered o ≡ 12)))
+QuestionAgrees v o = ((v ≡ accepted) × (answered o ≢ 11) × (answered o ≢ 12)) ⊎ ((told_of v ≡ tells o) × ((answered o ≡ 11) ⊎ (answered o ≡ 12)))
 
 module _ (l : Limits) (m : Lent) (ok : (in_range l && lent_fits l m) ≡ true) (b q : List ℕ) where
   -- The book check says accepted exactly when the run is not refused with 11, else it tells the same number and place.

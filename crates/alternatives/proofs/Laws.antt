@@ -1,9 +1,7 @@
--- Laws of the nodes: a node's arguments read one by one, what is saved of a node, a node put back, a copy laid down beside it.
--- Here, in order: arguments; a node saved; lists with a place set; a graph laid down; a copy poured.
+-- Laws of the nodes: what is saved of a node, a node put back, a copy laid down beside it.
+-- Here, in order: a node saved; a graph laid down; a copy poured; a node put back.
 -- Assumes nothing.
-use Prim.Native.Nat.{ℕ, zero, suc, ◌+◌, ◌*◌, ◌≤◌, ◌<◌}
-use native.Mathlib.Omega.{arith}
-use native.Mathlib.Numerals.{add-one}
+use Prim.Native.Nat.{ℕ, zero, suc}
 use mathlib.Core.Path.{◌≡◌, refl, ap, sym, ◌∙◌, subst}
 use mathlib.Core.Logic.{◌⊎◌, inl, inr, ◌≢◌}
 use mathlib.Core.Bool.{Bool, true, false}
@@ -11,17 +9,17 @@ use mathlib.Core.Option.{Option, none, some}
 use mathlib.Core.List.Memᴰ
 use mathlib.Core.List.{List, [], ◌∷◌, map, Memᴰ}
 use lib.ListN.{length, get_or, take, drop, set}
-use lib.Seq.{get_or-set_other, take-suc, take-suc-set, take_all}
-use lib.Dec.{leb, leb→le, nleb→lt}
-use Rattle.mem.specs.Words.{words}
+use lib.Seq.{get_or-set_other}
+use lib.Dec.{leb}
+use Rattle.std.proofs.lemmas.List.{set-set, set_comm, set-get_or}
 use Rattle.book.specs.Syntax.{con, fun}
 use Rattle.heap.specs.Graph.{Graph, Node, cell, var, fwd, node, args, Comp}
 use Rattle.heap.specs.Store.{Store, laid, moved}
 use Rattle.engine.specs.Machine as m
 use Rattle.standing.specs.Shared.{pour}
-use Rattle.store.specs.Regions.{graph_of, Did, set_node}
-use Rattle.store.specs.Rows.{seen, symbol_of}
-use Rattle.store.proofs.Laws.{arg-word, count-seen, count_of, seen-con, seen-call, seen-fwd, seen-var}
+use Rattle.store.specs.Regions.{Did, set_node}
+use Rattle.store.specs.Rows.{seen, count_of, symbol_of}
+use Rattle.store.proofs.Laws.{seen-con, seen-call, seen-fwd, seen-var}
 use Rattle.store.specs.declared.Seen.{Seen}
 use Rattle.store.specs.declared.Seen.TheVariants.{Var, Con, Call, Fwd}
 use Rattle.book.specs.declared.ConNo.{ConNo}
@@ -29,72 +27,27 @@ use Rattle.book.specs.declared.FunNo.{FunNo}
 use Rattle.store.specs.declared.NodeNo.{NodeNo}
 use Rattle.store.specs.declared.Head.TheVariants.{Makes, Calls}
 use Rattle.alternatives.specs.declared.Saved.{Saved}
-use Rattle.alternatives.specs.Copies.{count_in, node_with, node_is}
-
--- one more of k arguments stored
-pub fill-take : (l l' xs : List ℕ) (j v k : ℕ) → length l ≡ 8 → take j l ≡ take j xs → k ≡ length xs → v ≡ get_or xs j 0 → l' ≡ set l j v → j < 8 → j < k → take (j + 1) l' ≡ take (j + 1) xs
-fill-take l l' xs j v k n e long q w h lt = rw (w, add-one, take-suc-set l j v (omega arith), e, q) (sym (take-suc xs j 0 (omega arith)))
-
--- all of them
-pub fill-all : (l xs : List ℕ) (j k : ℕ) → k ≡ length xs → j ≡ k → take j l ≡ take j xs → take k l ≡ xs
-fill-all l xs j k long e t = ap (λ (i : ℕ). take i l) (sym e) ∙ t ∙ take_all j xs (omega arith)
-
--- no node has more than eight arguments
-pub args-few : (L i : ℕ) (s : List ℕ) → i < L → 16 * L ≤ length (words s) → length (args (node (graph_of L s) i)) ≤ 8
-args-few L i s h room = go (leb (length (args (node (graph_of L s) i))) 8) refl
-  where
-    go : (b : Bool) → leb (length (args (node (graph_of L s) i))) 8 ≡ b → length (args (node (graph_of L s) i)) ≤ 8
-    go true e = leb→le (length (args (node (graph_of L s) i))) 8 (rw e tt)
-    go false e = let u = nleb→lt (length (args (node (graph_of L s) i))) 8 (rw e tt) in let z = (arg-word L i 8 s h room u).1 in absurd (omega arith)
-
-same_count : (k : Seen) → count_in k ≡ count_of k
-unfolding count_in count_of
-same_count Var = refl
-same_count (Con c n) = refl
-same_count (Call f n) = refl
-same_count (Fwd t) = refl
-
-pub count-is : (k : Seen) (x : Node) → k ≡ seen x → count_in k ≡ length (args x)
-count-is k x e = same_count k ∙ ap count_of e ∙ count-seen x
+use Rattle.alternatives.specs.Copies.{node_with, node_is}
 
 -- what is seen and the arguments are the node
-pub saved-is : (k : Seen) (x : Node) (l : List ℕ) → k ≡ seen x → take (count_in k) l ≡ args x → node_with k l ≡ x
-unfolding count_in node_with
+pub saved-is : (k : Seen) (x : Node) (l : List ℕ) → k ≡ seen x → take (count_of k) l ≡ args x → node_with k l ≡ x
+unfolding count_of node_with
 saved-is Var x l e a = sym (seen-var x e)
 saved-is (Con c n) x l e a = ap (cell (con c.0)) a ∙ sym (seen-con x c n e).0
 saved-is (Call f n) x l e a = ap (cell (fun f.0)) a ∙ sym (seen-call x f n e).0
 saved-is (Fwd t) x l e a = sym (seen-fwd x t e)
 
-pub saved-as : (k : Seen) (n : ℕ) (x : Node) (l : List ℕ) → k ≡ seen x → n ≡ count_in k → take n l ≡ args x → node_with k l ≡ x
+pub saved-as : (k : Seen) (n : ℕ) (x : Node) (l : List ℕ) → k ≡ seen x → n ≡ count_of k → take n l ≡ args x → node_with k l ≡ x
 saved-as k n x l e q a = saved-is k x l e (ap (λ (i : ℕ). take i l) (sym q) ∙ a)
-
--- a place set twice, two places set, a place set to what it was
-module _ {A : Type 0} where
-  pub set_twice : (l : List A) (i : ℕ) (a b : A) → set (set l i a) i b ≡ set l i b
-  set_twice [] i a b = refl
-  set_twice (x ∷ l) zero a b = refl
-  set_twice (x ∷ l) (suc i) a b = ap (λ (r : List A). x ∷ r) (set_twice l i a b)
-
-  pub set_apart : (l : List A) (i j : ℕ) (a b : A) → i ≢ j → set (set l i a) j b ≡ set (set l j b) i a
-  set_apart [] i j a b n = refl
-  set_apart (x ∷ l) zero zero a b n = absurd (n refl)
-  set_apart (x ∷ l) zero (suc j) a b n = refl
-  set_apart (x ∷ l) (suc i) zero a b n = refl
-  set_apart (x ∷ l) (suc i) (suc j) a b n = ap (λ (r : List A). x ∷ r) (set_apart l i j a b (λ e. n (ap suc e)))
-
-  pub set_same : (l : List A) (i : ℕ) (d : A) → set l i (get_or l i d) ≡ l
-  set_same [] i d = refl
-  set_same (x ∷ l) zero d = refl
-  set_same (x ∷ l) (suc i) d = ap (λ (r : List A). x ∷ r) (set_same l i d)
 
 -- a graph laid down beside node h, which is then put back
 pub laid-back : (names : List ℕ) (xs : Graph) (ks : List ℕ) (s : Graph) (h : ℕ) (x : Node) → ((j : ℕ) → Memᴰ j ks → h ≢ j) → set (laid names xs ks (set s h x)) h (node s h) ≡ laid names xs ks s
 unfolding laid
-laid-back names [] ks s h x a = set_twice s h x (node s h) ∙ set_same s h var
-laid-back names (y ∷ xs) [] s h x a = set_twice s h x (node s h) ∙ set_same s h var
+laid-back names [] ks s h x a = set-set s h x (node s h) ∙ set-get_or s h var
+laid-back names (y ∷ xs) [] s h x a = set-set s h x (node s h) ∙ set-get_or s h var
 laid-back names (y ∷ xs) (k ∷ ks) s h x a =
     let n : h ≢ k = a k (Memᴰ.head refl) in
-    rw (set_apart s h k x (moved names y) n, ← get_or-set_other s k h (moved names y) var n) (laid-back names xs ks (set s k (moved names y)) h x (λ j m. a j (Memᴰ.tail m)))
+    rw (set_comm s h k x (moved names y) n, ← get_or-set_other s k h (moved names y) var n) (laid-back names xs ks (set s k (moved names y)) h x (λ j m. a j (Memᴰ.tail m)))
 
 -- the store with node h another
 abbrev pub with_node : Store → ℕ → Node → Store

@@ -5,12 +5,14 @@ use Prim.Native.Nat.{ℕ, zero, suc, ◌+◌, ◌-◌, ◌≤◌, ◌<◌}
 use native.Mathlib.Omega.{arith}
 use native.Mathlib.Numerals.{add-one}
 use mathlib.Core.Path.{◌≡◌, refl, ap, sym, ◌∙◌, subst}
-use mathlib.Core.Bool.{Bool, true, false, not}
-use mathlib.Core.Option.{Option, none, some}
+use mathlib.Core.Logic.{◌⊎◌, inl, inr}
+use mathlib.Core.Option as pure
+use mathlib.Core.Option.{none, some}
+use Rattle.std.specs.Prelude.{Option, Some, None}
 use mathlib.Core.List.{List, [], ◌∷◌, ◌++◌, append_assoc, append-nil, Memᴰ}
 use lib.ListN.{length, get_or, drop, length-take, length-drop}
 use lib.Seq.{get_or-take, get_or-drop, drop-cons, drop-length}
-use lib.Dec.{ltb, ltb→lt, nltb→le}
+use Rattle.std.proofs.lemmas.Bool.{cases_lt}
 use Rattle.mem.specs.Words.{Only}
 use Rattle.mem.proofs.Laws.{only_then, take-kept, drop-kept, part-before}
 use Rattle.heap.specs.Graph.{Graph, copy}
@@ -24,36 +26,27 @@ use Rattle.standing.specs.Part.{Part}
 use Rattle.standing.specs.Shared.{pour, pour_all}
 use Rattle.standing.proofs.Alternatives.{Splits, splits-part, splits-poured}
 use Rattle.store.specs.Regions.{graph_of, rest_of, store_of}
+use Rattle.store.specs.Roots.{roots_of}
+use Rattle.store.specs.declared.Roots.{Roots}
 use Rattle.store.proofs.Laws.{length-graph}
 use Rattle.store.proofs.Writes.{length_rest}
 use Rattle.copier.specs.Listed.{Clean}
 use Rattle.copier.specs.Poured.{given}
-use Rattle.pool.specs.declared.Roots.{Roots}
-use Rattle.pool.specs.Ring.{held_by, roots_of, roots_at, scratch_at, Sized}
-use Rattle.alternatives.specs.declared.Grown.{Grown}
-use Rattle.alternatives.specs.Copies.{Space, terms_in, alt_in, alts_in, Opens, Divides, Aside, as_if, OnePoured, AllPoured, given_all}
+use Rattle.pool.specs.Ring.{held_by, roots_at, scratch_at, Sized}
+use Rattle.alternatives.specs.Copies.{Space, terms_in, alt_in, alts_in, Opens, Divides, Aside, as_if, OnePoured, AllPoured}
 use Rattle.alternatives.proofs.Steps.{nodes-are}
 
--- a test and its opposite
-pub refused : (b : Bool) → not b ≡ true → b ≡ false
-refused true e = sym e
-refused false e = refl
-
-pub passed : (b : Bool) → not b ≡ false → b ≡ true
-passed true e = refl
-passed false e = sym e
-
 -- what comes of the later terms, with the alternatives before them
-unfoldable pub onto : List m.Held → Option (Store × List m.Held) → Option (Store × List m.Held)
+unfoldable pub onto : List m.Held → pure.Option (Store × List m.Held) → pure.Option (Store × List m.Held)
 onto cs none = none
 onto cs (some q) = some (q.0, cs ++ q.1)
 
-onto-nothing : (x : Option (Store × List m.Held)) → x ≡ onto [] x
+onto-nothing : (x : pure.Option (Store × List m.Held)) → x ≡ onto [] x
 unfolding onto
 onto-nothing none = refl
 onto-nothing (some q) = refl
 
-onto-onto : (cs ds : List m.Held) (x : Option (Store × List m.Held)) → onto cs (onto ds x) ≡ onto (cs ++ ds) x
+onto-onto : (cs ds : List m.Held) (x : pure.Option (Store × List m.Held)) → onto cs (onto ds x) ≡ onto (cs ++ ds) x
 unfolding onto
 onto-onto cs ds none = refl
 onto-onto cs ds (some q) = ap (λ (l : List m.Held). some (q.0, l)) (sym (append_assoc cs ds q.1))
@@ -64,7 +57,7 @@ all-next : (μ : Store) (c : m.Held) (h k : ℕ) (ks : List ℕ) (μ' : Store) (
 unfolding pour_all onto
 all-next μ c h k ks μ' d e = rw (e, pour_all) (go (pour_all μ' c h ks) refl)
   where
-    go : (x : Option (Store × List m.Held)) → pour_all μ' c h ks ≡ x
+    go : (x : pure.Option (Store × List m.Held)) → pour_all μ' c h ks ≡ x
         → elim (pour_all μ' c h ks) [ none ↦ none | some q ↦ some (q.0, d ∷ q.1) ] ≡ onto (d ∷ []) (pour_all μ' c h ks)
     go none q = rw (q, onto)
     go (some y) q = rw (q, onto)
@@ -81,11 +74,11 @@ all_none μ c h = refl
 up_from-has : (n a x : ℕ) → a ≤ x → x < a + n → Memᴰ x (up_from a n)
 unfolding up_from
 up_from-has zero a x h l = absurd (omega arith)
-up_from-has (suc n) a x h l = go (ltb a x) refl (λ i. up_from-has n (suc a) x i (omega arith))
+up_from-has (suc n) a x h l = go (cases_lt a x) (λ i. up_from-has n (suc a) x i (omega arith))
   where
-    go : (b : Bool) → ltb a x ≡ b → (suc a ≤ x → Memᴰ x (up_from (suc a) n)) → Memᴰ x (a ∷ up_from (suc a) n)
-    go true e ih = Memᴰ.tail (ih (ltb→lt a x (rw e tt)))
-    go false e ih = let i = nltb→le a x (rw e tt) in let q : x ≡ a = omega arith in Memᴰ.head q
+    go : (a < x) ⊎ (x ≤ a) → (suc a ≤ x → Memᴰ x (up_from (suc a) n)) → Memᴰ x (a ∷ up_from (suc a) n)
+    go (inl i) ih = Memᴰ.tail (ih i)
+    go (inr i) ih = let q : x ≡ a = omega arith in Memᴰ.head q
 
 module _ (L made : ℕ) (s : List ℕ) where
   abbrev μ : Store
@@ -112,14 +105,14 @@ module _ (L made : ℕ) (s : List ℕ) where
       whole (x ∷ xs) i = refl
 
       taken : (x : ℕ) → Memᴰ x S.world.owned → x < made
-      taken x w = go (ltb x made) refl
+      taken x w = go (cases_lt x made)
         where
           low : x < L
           low = let a = S.holds.in_q x w in let b = ap length (nodes-are L made s) in let c = length-graph L s in omega arith
 
-          go : (b : Bool) → ltb x made ≡ b → x < made
-          go true e = ltb→lt x made (rw e tt)
-          go false e = absurd (S.holds.idle x (free-has x (nltb→le x made (rw e tt)) low) w)
+          go : (x < made) ⊎ (made ≤ x) → x < made
+          go (inl u) = u
+          go (inr u) = absurd (S.holds.idle x (free-has x u low) w)
 
   pub divides-next : (l : List ℕ) (h k : ℕ) (ks : List ℕ) (made' : ℕ) (s' : List ℕ) (d : m.Held) → Divides L made l h (k ∷ ks) s → pour (copy (as_if (graph_of L s) l h k)) μ ≡ some (store_of L made' s', d) → Divides L made' l h ks s'
   divides-next l h k ks made' s' d D e = record {
@@ -163,7 +156,6 @@ module _ (L base made₀ : ℕ) (r : Roots) (h count : ℕ) (s₀ : List ℕ) wh
 
   module _ (space : Space L base s₀) (small : count ≤ 32) (sized : Sized r) (nine : length r.at ≡ 9) where
     has_one : 1 ≤ length l
-    unfolding roots_of
     has_one = simp length-take (omega arith)
 
     long : length ks ≡ count
@@ -186,53 +178,57 @@ module _ (L base made₀ : ℕ) (r : Roots) (h count : ℕ) (s₀ : List ℕ) wh
       pub rounds-opens : (k : ℕ) → i < count → k ≡ get_or (rest_of L s) (base + 2696 + i) 0 → Opens L made l h k s
       rounds-opens k lt e = divides-opens L made s l h k (drop (suc i) ks) has_one (subst (λ (z : List ℕ). Divides L made l h z s) (rounds-term k lt e) R.divides)
 
-      module _ (k : ℕ) (s' : List ℕ) (a : Grown) (lt : i < count) (e : k ≡ get_or (rest_of L s) (base + 2696 + i) 0) (P : OnePoured L base made r h k i s s' a) where
-        wide : Only (scratch_at base 0) (scratch_at base 32) (rest_of L s) (rest_of L s')
-        wide = record { before = take-kept P.aside.rest (scratch_at base 0) (omega arith); behind = drop-kept P.aside.rest (scratch_at base 32) (omega arith); long = P.aside.rest.long }
+      module _ (k : ℕ) (s' : List ℕ) (lt : i < count) (e : k ≡ get_or (rest_of L s) (base + 2696 + i) 0) where
+        -- what the copy for this term gives, whatever the stack is
+        abbrev laid_down : ℕ → Store × m.Held
+        laid_down n = (store_of L n s', alt_in L base r.n s' i)
 
-        aside' : Aside L made₀ (scratch_at base 0) (scratch_at base 32) s₀ s'
-        aside' = record {
-          nodes = λ x lt'. P.aside.nodes x (let b = R.more.0 in omega arith) ∙ R.aside.nodes x lt';
-          marks = P.aside.marks ∙ R.aside.marks;
-          links = P.aside.links ∙ R.aside.links;
-          frames = P.aside.frames ∙ R.aside.frames;
-          rest = only_then R.aside.rest wide;
-          long = P.aside.long ∙ R.aside.long;
-          clean = P.aside.clean;
-        }
+        module _ (a : Option ℕ) (P : OnePoured L base made r h k i s s' a) where
+          wide : Only (scratch_at base 0) (scratch_at base 32) (rest_of L s) (rest_of L s')
+          wide = record { before = take-kept P.aside.rest (scratch_at base 0) (omega arith); behind = drop-kept P.aside.rest (scratch_at base 32) (omega arith); long = P.aside.rest.long }
 
-        stored : (N : List ℕ) (b : Bool) → a.fits ≡ b → pour (copy (record { graph = forward (store_of L made s).nodes h k; value = (held_by l N).value; askers = (held_by l N).askers })) (store_of L made s) ≡ given b (store_of L a.made s') (alt_in L base r.n s' i)
-        stored N b q = subst (λ (g : Graph). pour (copy (as_if g l h k)) (store_of L made s) ≡ given b (store_of L a.made s') (alt_in L base r.n s' i)) (sym (nodes-are L made s)) (subst (λ (z : Bool). pour (copy (as_if (graph_of L s) l h k)) (store_of L made s) ≡ given z (store_of L a.made s') (alt_in L base r.n s' i)) q P.is)
+          aside' : Aside L made₀ (scratch_at base 0) (scratch_at base 32) s₀ s'
+          aside' = record {
+            nodes = λ x lt'. P.aside.nodes x (let b = R.more.0 in omega arith) ∙ R.aside.nodes x lt';
+            marks = P.aside.marks ∙ R.aside.marks;
+            links = P.aside.links ∙ R.aside.links;
+            frames = P.aside.frames ∙ R.aside.frames;
+            rest = only_then R.aside.rest wide;
+            long = P.aside.long ∙ R.aside.long;
+            clean = P.aside.clean;
+          }
 
-        before : alts_in L base r.n i s' ≡ alts_in L base r.n i s
-        before = alts-kept L base r.n s s' i (λ j lt'. alt-kept L base r.n s s' (scratch_at base i) (scratch_at base i + r.n) j P.aside.rest (omega arith))
+          stored : (N : List ℕ) → pour (copy (record { graph = forward (store_of L made s).nodes h k; value = (held_by l N).value; askers = (held_by l N).askers })) (store_of L made s) ≡ given laid_down a
+          stored N = subst (λ (g : Graph). pour (copy (as_if g l h k)) (store_of L made s) ≡ given laid_down a) (sym (nodes-are L made s)) P.is
 
-        pub rounds-next : a.fits ≡ true → Rounds s' a.made (i + 1)
+          before : alts_in L base r.n i s' ≡ alts_in L base r.n i s
+          before = alts-kept L base r.n s s' i (λ j lt'. alt-kept L base r.n s s' (scratch_at base i) (scratch_at base i + r.n) j P.aside.rest (omega arith))
+
+        pub rounds-next : (n : ℕ) → OnePoured L base made r h k i s s' (Some n) → Rounds s' n (i + 1)
         unfolding given alts_in
-        rounds-next q = subst (Rounds s' a.made) (sym (add-one i)) (record {
+        rounds-next n P = subst (Rounds s' n) (sym (add-one i)) (record {
           onward = λ N. R.onward N
               ∙ ap (λ (z : List ℕ). onto (alts_in L base r.n i s) (pour_all (store_of L made s) (held_by l N) h z)) (rounds-term k lt e)
-              ∙ ap (onto (alts_in L base r.n i s)) (all-next (store_of L made s) (held_by l N) h k (drop (suc i) ks) (store_of L a.made s') (alt_in L base r.n s' i) (stored N true q))
-              ∙ onto-onto (alts_in L base r.n i s) (alt_in L base r.n s' i ∷ []) (pour_all (store_of L a.made s') (held_by l N) h (drop (suc i) ks))
-              ∙ ap (λ (z : List m.Held). onto (z ++ alt_in L base r.n s' i ∷ []) (pour_all (store_of L a.made s') (held_by l N) h (drop (suc i) ks))) (sym before);
-          divides = divides-next L made s l h k (drop (suc i) ks) a.made s' (alt_in L base r.n s' i) (subst (λ (z : List ℕ). Divides L made l h z s) (rounds-term k lt e) R.divides) (subst (λ (z : Bool). pour (copy (as_if (graph_of L s) l h k)) (store_of L made s) ≡ given z (store_of L a.made s') (alt_in L base r.n s' i)) q P.is);
+              ∙ ap (onto (alts_in L base r.n i s)) (all-next (store_of L made s) (held_by l N) h k (drop (suc i) ks) (store_of L n s') (alt_in L base r.n s' i) (stored (Some n) P N))
+              ∙ onto-onto (alts_in L base r.n i s) (alt_in L base r.n s' i ∷ []) (pour_all (store_of L n s') (held_by l N) h (drop (suc i) ks))
+              ∙ ap (λ (z : List m.Held). onto (z ++ alt_in L base r.n s' i ∷ []) (pour_all (store_of L n s') (held_by l N) h (drop (suc i) ks))) (sym (before (Some n) P));
+          divides = divides-next L made s l h k (drop (suc i) ks) n s' (alt_in L base r.n s' i) (subst (λ (z : List ℕ). Divides L made l h z s) (rounds-term k lt e) R.divides) P.is;
           more = (let b = R.more.0 in let d = P.more.0 in omega arith, P.more.1);
-          aside = aside';
+          aside = aside' (Some n) P;
         })
 
-        pub rounds-full : a.fits ≡ false → AllPoured L base made₀ r h count s₀ s' a
-        unfolding given onto given_all
-        rounds-full q = record {
+        pub rounds-full : OnePoured L base made r h k i s s' None → AllPoured L base made₀ r h count s₀ s' None
+        unfolding given onto
+        rounds-full P = record {
           is = λ N. R.onward N
               ∙ ap (λ (z : List ℕ). onto (alts_in L base r.n i s) (pour_all (store_of L made s) (held_by l N) h z)) (rounds-term k lt e)
-              ∙ ap (onto (alts_in L base r.n i s)) (all-full (store_of L made s) (held_by l N) h k (drop (suc i) ks) (stored N false q))
-              ∙ ap (λ (z : Bool). given_all z (store_of L a.made s') (alts_in L base r.n count s')) (sym q);
-          more = (let b = R.more.0 in let d = P.more.0 in omega arith, P.more.1);
-          aside = aside';
+              ∙ ap (onto (alts_in L base r.n i s)) (all-full (store_of L made s) (held_by l N) h k (drop (suc i) ks) (stored None P N));
+          more = tt;
+          aside = aside' None P;
         }
 
-      pub rounds-done : i ≡ count → AllPoured L base made₀ r h count s₀ s (record { fits = true; made = made })
-      unfolding onto given_all
+      pub rounds-done : i ≡ count → AllPoured L base made₀ r h count s₀ s (Some made)
+      unfolding onto given
       rounds-done q = record {
         is = λ N. R.onward N
             ∙ ap (λ (z : List ℕ). onto (alts_in L base r.n i s) (pour_all (store_of L made s) (held_by l N) h z)) (ap (λ (j : ℕ). drop j ks) (q ∙ sym long) ∙ drop-length ks)

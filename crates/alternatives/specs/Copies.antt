@@ -2,13 +2,11 @@
 -- Here, in order: room; a node saved; the terms and the alternatives in the rest; what code relies on; what stays; one copy; all copies.
 -- Not here: the copy of one computation (copier), the model that the equations name (standing, Shared).
 -- Assumes nothing.
-use Rattle.std.specs.Prelude.{ℕ, zero, suc, ◌+◌, ◌*◌, ◌≤◌, ◌<◌, ◌≡◌, Bool, true, false, length, get_or, take, drop}
-use Rattle.std.proofs.Math.Option.{Option, none, some}
+use Rattle.std.specs.Prelude.{ℕ, zero, suc, ◌+◌, ◌*◌, ◌≤◌, ◌<◌, ◌≡◌, Option, IfSome, length, get_or, take, drop}
 use mathlib.Core.List.{List, [], ◌∷◌, ◌++◌, Memᴰ}
 use Rattle.mem.specs.Words.{words, Only}
 use Rattle.book.specs.Syntax.{Book, con, fun}
 use Rattle.heap.specs.Graph.{Graph, Node, cell, var, fwd, node, Comp, copy}
-use Rattle.heap.specs.Store.{Store}
 use Rattle.engine.specs.Turn.{forward}
 use Rattle.engine.specs.Compile.{compile}
 use Rattle.engine.specs.Machine as m
@@ -16,26 +14,19 @@ use Rattle.agreement.proofs.Fine.{Takes}
 use Rattle.standing.specs.Part.{Part}
 use Rattle.standing.specs.Shared.{pour, pour_all}
 use Rattle.standing.proofs.Alternatives.{Splits}
+use Rattle.store.specs.Roots.{roots_of}
+use Rattle.store.specs.declared.Roots.{Roots}
 use Rattle.store.specs.declared.Seen.{Seen}
 use Rattle.store.specs.declared.Seen.TheVariants.{Var, Con, Call, Fwd}
 use Rattle.store.specs.Regions.{node_bound, graph_of, marks_of, links_of, frames_of, rest_of, store_of}
 use Rattle.copier.specs.Listed.{Clean}
 use Rattle.copier.specs.Poured.{given}
-use Rattle.pool.specs.declared.Roots.{Roots}
-use Rattle.pool.specs.Ring.{held_by, roots_of, roots_at, scratch_at}
+use Rattle.pool.specs.Ring.{held_by, roots_at, scratch_at}
 use Rattle.alternatives.specs.declared.Saved.{Saved}
-use Rattle.alternatives.specs.declared.Grown.{Grown}
 
 -- room for L nodes, for the rest up to `base`, and for tables, registers and scratch rows
 abbrev pub Space : ℕ → ℕ → List ℕ → Type 0
 Space L base s = (L ≤ node_bound) × (base ≤ 20480) × (16 * L + base + 4096 ≤ length (words s))
-
--- how many arguments what is seen has
-unfoldable pub count_in : Seen → ℕ
-count_in Var = 0
-count_in (Con c k) = k
-count_in (Call f k) = k
-count_in (Fwd t) = 0
 
 -- what is seen, with its arguments
 unfoldable pub node_with : Seen → List ℕ → Node
@@ -87,18 +78,13 @@ abbrev pub as_if : Graph → List ℕ → ℕ → ℕ → Comp
 as_if g l h k = record { graph = forward g h k; value = get_or l 0 0; askers = drop 1 l }
 
 -- its copy is alternative i, or does not fit
-pub record OnePoured (L base made : ℕ) (r : Roots) (h k i : ℕ) (s s' : List ℕ) (a : Grown) : Type 0 where
-  pub is : pour (copy (as_if (graph_of L s) (roots_of r) h k)) (store_of L made s) ≡ given a.fits (store_of L a.made s') (alt_in L base r.n s' i)
-  pub more : (made ≤ a.made) × (a.made ≤ L)
+pub record OnePoured (L base made : ℕ) (r : Roots) (h k i : ℕ) (s s' : List ℕ) (a : Option ℕ) : Type 0 where
+  pub is : pour (copy (as_if (graph_of L s) (roots_of r) h k)) (store_of L made s) ≡ given (λ n. (store_of L n s', alt_in L base r.n s' i)) a
+  pub more : IfSome a (λ n. (made ≤ n) × (n ≤ L))
   pub aside : Aside L made (scratch_at base i) (scratch_at base i + r.n) s s'
 
--- the store and the alternatives, if they fit
-unfoldable pub given_all : Bool → Store → List m.Held → Option (Store × List m.Held)
-given_all true μ cs = some (μ, cs)
-given_all false μ cs = none
-
 -- the copies for all terms are the alternatives, whatever the stack is, or do not fit
-pub record AllPoured (L base made : ℕ) (r : Roots) (h count : ℕ) (s s' : List ℕ) (a : Grown) : Type 0 where
-  pub is : (N : List ℕ) → pour_all (store_of L made s) (held_by (roots_of r) N) h (terms_in L base s count) ≡ given_all a.fits (store_of L a.made s') (alts_in L base r.n count s')
-  pub more : (made ≤ a.made) × (a.made ≤ L)
+pub record AllPoured (L base made : ℕ) (r : Roots) (h count : ℕ) (s s' : List ℕ) (a : Option ℕ) : Type 0 where
+  pub is : (N : List ℕ) → pour_all (store_of L made s) (held_by (roots_of r) N) h (terms_in L base s count) ≡ given (λ n. (store_of L n s', alts_in L base r.n count s')) a
+  pub more : IfSome a (λ n. (made ≤ n) × (n ≤ L))
   pub aside : Aside L made (scratch_at base 0) (scratch_at base 32) s s'

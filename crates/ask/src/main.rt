@@ -7,8 +7,6 @@
 // is answered 14, the rest 0, line two empty: a buffer of one byte more than 33,282 tells.
 #![tactic(auto)]
 
-ghost use Rattle.std.specs.Prelude.{◌≤◌};
-
 use input::read_full;
 use run::{Limits, Outcome};
 use std::io;
@@ -27,11 +25,10 @@ fn limits() -> Limits {
 
 // Both lines of an outcome.
 fn print<W: Write>(out: &mut W, o: Outcome, results: &[u8]) -> io::Result<()> {
-    let n = o.written;
     lines::print_told(out, o)?;
     out.write_all(b"\n")?;
-    if n <= results.len() {
-        lines::print_hex(out, &results[..n])?;
+    if o.written <= results.len() {
+        lines::print_hex(out, &results[..o.written])?;
     }
     out.write_all(b"\n")
 }
@@ -50,13 +47,6 @@ fn judge<W: Write>(out: &mut W, book: &[u8], question: &[u8]) -> io::Result<()> 
     print(out, o, &results)
 }
 
-// A byte as a number.
-fn wide(x: u8) -> usize
-    ensures { result ≤ 255 }
-{
-    x as usize
-}
-
 // The book of this length and the question after it.
 fn divide<W: Write>(out: &mut W, b: usize, rest: &[u8]) -> io::Result<()> {
     if rest.len() < b {
@@ -67,14 +57,14 @@ fn divide<W: Write>(out: &mut W, b: usize, rest: &[u8]) -> io::Result<()> {
 
 // All of the input.
 fn answer<W: Write>(out: &mut W, input: &[u8]) -> io::Result<()> {
-    if input.len() < 2 {
+    let [low, high, rest @ ..] = input else {
         return refuse(out);
-    }
+    };
     if 33282 < input.len() {
         return refuse(out);
     }
-    let b = wide(input[0]) + 256 * wide(input[1]);
-    divide(out, b, &input[2..])
+    let b = u16::from_le_bytes([*low, *high]) as usize;
+    divide(out, b, rest)
 }
 
 // The input's bytes, and one more where there is one.

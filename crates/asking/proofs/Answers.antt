@@ -4,7 +4,6 @@
 use Prim.Native.Nat.{ℕ, suc, ◌+◌, ◌-◌, ◌*◌, ◌/◌, ◌≤◌, ◌<◌}
 use native.Mathlib.Omega.{arith}
 use mathlib.Core.Path.{◌≡◌, refl, ap, sym, ◌∙◌, subst}
-use mathlib.Core.Bool.{true, false}
 use mathlib.Core.List.{List, [], ◌∷◌}
 use mathlib.Core.Option.{Option, some}
 use lib.ListN.{length, get_or, drop, replicate, length-replicate}
@@ -17,8 +16,10 @@ use Rattle.heap.specs.Store.{Store}
 use Rattle.store.specs.Regions.{graph_of, rest_of, store_of}
 use Rattle.engine.specs.Machine as m
 use Rattle.standing.specs.Shared.{pour}
-use Rattle.pool.specs.declared.Roots.{Roots}
-use Rattle.pool.specs.Ring.{chain, stack_of, roots_of, held_in}
+use Rattle.store.specs.declared.Roots.{Roots}
+use Rattle.store.specs.Roots.{roots_of}
+use Rattle.pool.specs.Ring.{chain, stack_of, held_in}
+use Rattle.std.specs.Prelude.{Some, None}
 use Rattle.asking.specs.declared.Walk.{Walk}
 use Rattle.asking.specs.Question.{terms_at, Arities, AskedOf, terms_of, pre_terms, over, VarsPut, cells, term_over, WalkDone, answer_of, Asked}
 use Rattle.asking.proofs.Records.{RightTold, cons_in, funcs_in, question-told}
@@ -75,14 +76,14 @@ module _ {L base : ℕ} {s q : List ℕ} (x : AskedOf L base s q) where
       ap (λ (y : Graph × List ℕ). length y.0) (sym p) ∙ h ∙ rw (first, f)
 
   -- the nodes do not fit
-  pub asked-full : (n : ℕ) (roots : Roots) → length q ≡ 2 + 2 * n → L < get_or q 1 0 + cells q 2 n → roots.n ≡ suc (get_or q 1 0) → Asked L base x s (record { fits = false; made = 0; roots = roots })
+  pub asked-full : (n : ℕ) → length q ≡ 2 + 2 * n → L < get_or q 1 0 + cells q 2 n → Asked L base x s None
   unfolding answer_of
-  asked-full n roots e h c =
+  asked-full n e h =
       record {
         is = ap (λ (D : Comp). pour D (store_of L 0 s)) start_is ∙ pour-full C L s (omega (arith, whole_long n e, told.vars));
-        made = λ z. (let y : ◌≡◌ {A = ℕ} 0 1 = cc in absurd (omega arith));
-        kept = λ z. refl;
-        count = c ∙ ap suc (sym told.vars);
+        made = tt;
+        count = tt;
+        kept = refl;
         beside = beside_none L _ _ s;
       }
 
@@ -108,7 +109,7 @@ module _ {L base : ℕ} {s q : List ℕ} (x : AskedOf L base s q) where
             first-term L base s₂ whole.1 f
 
     pub asked-built : (roots : Roots) (n value : ℕ) → length q ≡ 2 + 2 * n → get_or q 1 0 + cells q 2 n ≤ L → value ≡ get_or (rest_of L s₂) (base + terms_at) 0 → (roots.n ≡ suc (get_or q 1 0)) × (roots_of roots ≡ value ∷ up_from 0 (get_or q 1 0))
-        → Asked L base x s₂ (record { fits = true; made = w.made; roots = roots })
+        → Asked L base x s₂ (Some (record { made = w.made; roots = roots }))
     unfolding answer_of
     asked-built roots n value e h v r =
         let c : roots_of roots ≡ whole.1 ∷ up_from 0 vars = r.1 ∙ rw (v, value-is, told.vars) in
@@ -116,9 +117,9 @@ module _ {L base : ℕ} {s q : List ℕ} (x : AskedOf L base s q) where
           is = ap (λ (D : Comp). pour D (store_of L 0 s)) start_is
               ∙ pour-fits C L s (omega (arith, whole_long n e, told.vars)) (grown.0.low (length whole.0) (omega arith) (low-vars (length whole.0) vars)) grown.1 (below_up (length whole.0) vars 0 (omega (arith, grown.0.long, first)))
               ∙ answer-is L whole.0 whole.1 (up_from 0 vars) s s₂ w.made roots graph_is made-is c;
-          made = λ z. made-is ∙ ap (λ (D : Comp). length D.graph) (sym start_is);
-          kept = λ z. (let y : ◌≡◌ {A = ℕ} 0 1 = cc in absurd (omega arith));
+          made = made-is ∙ ap (λ (D : Comp). length D.graph) (sym start_is);
           count = r.0 ∙ ap suc (sym told.vars);
+          kept = tt;
           beside = beside-then (V₁.beside _ _) D.beside;
         }
 
@@ -132,6 +133,6 @@ asked-size x = let t = question-told x in (omega (arith, t.at), omega (arith, t.
 
 -- the question was asked, as the code counts
 pub asked-made : {L base : ℕ} {s q : List ℕ} (x : AskedOf L base s q) (s₁ s₂ : List ℕ) (w : Walk) (v n value : ℕ) (roots : Roots) → v ≡ get_or q 1 0 → VarsPut L v s s₁ → WalkDone L base x.right s₁ s₂ w → length q ≡ 2 + 2 * n → v + cells q 2 n ≤ L
-    → value ≡ get_or (rest_of L s₂) (base + terms_at) 0 → (roots.n ≡ suc v) × (roots_of roots ≡ value ∷ up_from 0 v) → Asked L base x s₂ (record { fits = true; made = w.made; roots = roots })
+    → value ≡ get_or (rest_of L s₂) (base + terms_at) 0 → (roots.n ≡ suc v) × (roots_of roots ≡ value ∷ up_from 0 v) → Asked L base x s₂ (Some (record { made = w.made; roots = roots }))
 asked-made {L} {base} {s} {q} x s₁ s₂ w v n value roots e p d z h g r =
     asked-built x s₁ s₂ w (subst (λ (i : ℕ). VarsPut L i s s₁) (e ∙ sym (question-told x).vars) p) d roots n value z (rw e at h) g (rw e at r)

@@ -3,30 +3,30 @@
 -- Assumes nothing.
 use Prim.Native.Nat.{ℕ, ◌+◌}
 use native.Mathlib.Omega.{arith}
-use mathlib.Core.Path.{◌≡◌, refl, sym, ◌∙◌, subst}
+use mathlib.Core.Path.{◌≡◌, refl, ap, sym, ◌∙◌, subst}
 use mathlib.Core.Bool.{Bool, true, false}
 use mathlib.Core.List.{List, [], ◌∷◌}
 use mathlib.Core.Option.{Option, none, some}
 use lib.ListN.{length, get_or}
 use lib.Dec.{ltb, leb, eqb}
 use borrow.Author.Tests.{eqb-true}
+use Rattle.std.specs.Prelude.{Result, Ok, Err}
 use Rattle.book.specs.declared.Sort.{Sort}
-use Rattle.book.specs.declared.Rec.{Rec}
-use Rattle.book.specs.declared.Rec.TheVariants.{Of, Bad}
-use Rattle.book.specs.Record.{Got, got, fault, body_of, body_byte, rec_at}
+use Rattle.book.specs.declared.Fault.{Fault}
+use Rattle.book.specs.Record.{Got, got, fault, Rec, body_of, body_byte, rec_at}
 use Rattle.book.specs.Reading.{after, make, Case, pick}
 
 -- what is known of a record that was read
-record Is (s : List ℕ) (k kind a b e : ℕ) : Type 0 where
+record Is (s : List ℕ) (k : ℕ) (r : Rec) : Type 0 where
   body : ℕ
-  known : body_of kind ≡ some body
-  first : a ≡ body_byte s (k + 1) body 0
-  here : get_or s k 0 ≡ kind
-  next : e ≡ k + 1 + body
+  known : body_of r.kind ≡ some body
+  first : r.a ≡ body_byte s (k + 1) body 0
+  here : get_or s k 0 ≡ r.kind
+  next : r.end ≡ k + 1 + body
 
-abbrev Known : List ℕ → ℕ → Rec → Type 0
-Known s k (Bad w) = Unit
-Known s k (Of kind a b e) = Is s k kind a b e
+abbrev Known : List ℕ → ℕ → Result Rec Fault → Type 0
+Known s k (Err f) = Unit
+Known s k (Ok r) = Is s k r
 
 rec-body : (s : List ℕ) (k : ℕ) → ltb k (length s) ≡ true → (m : Option ℕ) → body_of (get_or s k 0) ≡ m → Known s k (rec_at s k)
 unfolding rec_at
@@ -49,14 +49,14 @@ the-some : {m n : ℕ} → some m ≡ some n → m ≡ n
 the-some q = cc
 
 -- a record with one byte in its body
-pub rec_one : (s : List ℕ) (k : ℕ) {kind a b e : ℕ} → rec_at s k ≡ Of kind a b e → body_of kind ≡ some 1 → (get_or s k 0 ≡ kind) × (get_or s (k + 1) 0 ≡ a) × (e ≡ k + 2)
+pub rec_one : (s : List ℕ) (k : ℕ) {r : Rec} → rec_at s k ≡ Ok r → body_of r.kind ≡ some 1 → (get_or s k 0 ≡ r.kind) × (get_or s (k + 1) 0 ≡ r.a) × (r.end ≡ k + 2)
 unfolding body_byte
-rec_one s k {kind} {a} {b} {e} q h =
-    let r : Is s k kind a b e = subst (Known s k) q (rec-known s k) in
-    let m : r.body ≡ 1 = the-some (sym r.known ∙ h) in
+rec_one s k {r} q h =
+    let i : Is s k r = subst (Known s k) q (rec-known s k) in
+    let m : i.body ≡ 1 = the-some (sym i.known ∙ h) in
     let y : k + 1 + 0 ≡ k + 1 = omega arith in
-    let x : a ≡ get_or s (k + 1 + 0) 0 = r.first ∙ rw m in
-    (r.here, sym (x ∙ rw y), omega (arith, r.next))
+    let x : r.a ≡ get_or s (k + 1 + 0) 0 = i.first ∙ rw m in
+    (i.here, sym (x ∙ rw y), omega (arith, i.next))
 
 -- what is read, if anything, and where it ends, is as P says
 pub data Holds {A : Type 0} (P : A → ℕ → Type 0) : Got A → Type 0 where
@@ -93,16 +93,16 @@ any (fault w p) = lost
 module _ {A : Type 0} (s : List ℕ) (k : ℕ) (P : A → ℕ → Type 0) where
   abbrev pub HoldCases : List (Case A) → Type 0
   HoldCases [] = Unit
-  HoldCases (c ∷ cases) = ((a b e : ℕ) → rec_at s k ≡ Of c.kind a b e → c.fits a b ≡ true → Holds P (c.read a b e)) × HoldCases cases
+  HoldCases (c ∷ cases) = ((a b e : ℕ) → rec_at s k ≡ Ok (record { kind = c.kind; a = a; b = b; end = e }) → c.fits a b ≡ true → Holds P (c.read a b e)) × HoldCases cases
 
-  pub hold-pick : (cases : List (Case A)) → HoldCases cases → (r : Rec) → rec_at s k ≡ r → Holds P (pick cases k r)
+  pub hold-pick : (cases : List (Case A)) → HoldCases cases → (x : Result Rec Fault) → rec_at s k ≡ x → Holds P (pick cases k x)
   unfolding pick
-  hold-pick [] h (Bad w) q = lost
-  hold-pick (c ∷ cases) h (Bad w) q = lost
-  hold-pick [] h (Of kind a b e) q = lost
-  hold-pick (c ∷ cases) h (Of kind a b e) q = go (hold-pick cases h.1 (Of kind a b e) q) (eqb kind c.kind) refl (c.fits a b) refl
+  hold-pick [] h (Err f) q = lost
+  hold-pick (c ∷ cases) h (Err f) q = lost
+  hold-pick [] h (Ok r) q = lost
+  hold-pick (c ∷ cases) h (Ok r) q = go (hold-pick cases h.1 (Ok r) q) (eqb r.kind c.kind) refl (c.fits r.a r.b) refl
     where
-      go : Holds P (pick cases k (Of kind a b e)) → (t : Bool) → eqb kind c.kind ≡ t → (u : Bool) → c.fits a b ≡ u → Holds P (pick (c ∷ cases) k (Of kind a b e))
-      go ih true t true u = let z = eqb-true kind c.kind t in rw (t, pick, u) (h.0 a b e (q ∙ rw z) u)
+      go : Holds P (pick cases k (Ok r)) → (t : Bool) → eqb r.kind c.kind ≡ t → (u : Bool) → c.fits r.a r.b ≡ u → Holds P (pick (c ∷ cases) k (Ok r))
+      go ih true t true u = let z = eqb-true r.kind c.kind t in rw (t, pick, u) (h.0 r.a r.b r.end (q ∙ ap (λ (i : ℕ). Ok (record { kind = i; a = r.a; b = r.b; end = r.end })) z) u)
       go ih true t false u = rw (t, pick, u) lost
       go ih false t u v = rw (t, pick) ih

@@ -9,7 +9,7 @@ use mathlib.Core.Path.{◌≡◌, refl, ap, sym, ◌∙◌}
 use mathlib.Core.Bool.{true, false}
 use mathlib.Core.List.{List, [], ◌∷◌, ◌++◌, map, append_assoc}
 use mathlib.Core.Option.{none, some}
-use lib.ListN.{length, get_or, take, drop, set, replicate, length-append, length-set}
+use lib.ListN.{length, get_or, take, drop, set, replicate, length-append, length-set, take-append-drop}
 use lib.Seq.{take-suc-set, drop-set-lt}
 use lib.Dec.{leb}
 use borrow.Author.Tests.{le-leb, lt-leb}
@@ -22,8 +22,6 @@ use Rattle.heap.proofs.Laws.Numbers.{up_from-at, up_from-length}
 use Rattle.store.specs.Regions.{graph_of, store_of}
 use Rattle.store.proofs.Laws.{length-graph}
 use Rattle.standing.specs.Shared.{pour}
-use Rattle.pool.specs.declared.Roots.{Roots}
-use Rattle.pool.specs.Ring.{roots_of}
 use Rattle.asking.specs.Question.{over}
 
 take-up : (n m a : ℕ) → n ≤ m → take n (up_from a m) ≡ up_from a n
@@ -53,19 +51,10 @@ first_step v j l l' h h' e f =
     let a : 0 + j ≡ j = omega arith in
     rw (f, add-one (j + 1), take-suc-set l (j + 1) j (omega arith), e, add-one j, up_more 0 j, a)
 
-pub first-all : (v n : ℕ) (r : Roots) → r.n ≡ n + 1 → take (n + 1) r.at ≡ v ∷ up_from 0 n → (r.n ≡ suc n) × (roots_of r ≡ v ∷ up_from 0 n)
-unfolding roots_of
-first-all v n r e f = (e ∙ add-one n, rw e f)
-
 -- a graph laid down at numbers in a row
 laid-row : (names : List ℕ) (xs : Graph) (a : ℕ) (s : Graph) → a + length xs ≤ length s → laid names xs (up_from a (length xs)) s ≡ take a s ++ (map (moved names) xs ++ drop (a + length xs) s)
 unfolding laid up_from
-laid-row names [] a s h = let e : a + 0 ≡ a = omega arith in rw e (sym (take-drop a s))
-  where
-    take-drop : (a : ℕ) (s : Graph) → take a s ++ drop a s ≡ s
-    take-drop zero s = refl
-    take-drop (suc a) [] = refl
-    take-drop (suc a) (x ∷ s) = ap (λ (l : Graph). x ∷ l) (take-drop a s)
+laid-row names [] a s h = let e : a + 0 ≡ a = omega arith in rw e (sym (take-append-drop a s))
 laid-row names (x ∷ xs) a s h =
     let y : Node = moved names x in
     let e : a + suc (length xs) ≡ suc a + length xs = omega arith in

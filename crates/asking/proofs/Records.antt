@@ -122,7 +122,7 @@ module _ (q cons funcs : List ℕ) (vars : ℕ) where
   unfolding read_terms terms_from Deep
   terms-told zero zero k = holds {e = k} (record { n = 0; at = omega arith; few = omega arith; is = refl; deep = tt })
   terms-told (suc room) zero k = holds {e = k} (record { n = 0; at = omega arith; few = omega arith; is = refl; deep = tt })
-  terms-told zero (suc due) k = hold-after (head-told false k) (λ h e p. (let t = p.allowed in let z : ◌≡◌ {A = ℕ} 0 1 = cc in absurd (omega arith)))
+  terms-told zero (suc due) k = hold-after (head-told false k) (λ h e p. (let t = p.allowed in cc))
   terms-told (suc room) (suc due) k =
       hold-after (head-told true k) (λ h e p. hold-make (joined h) (both (terms-told room (h.args + due) e) (λ ts f u. terms-are-due q names room (h.args + due) e ts f u)) (λ ts f r. one_more room due k e h p ts f r.0 r.1))
 

@@ -1,5 +1,5 @@
 -- Laws of single writes: what stays beside them, the pending handles, variables, one record walked over.
--- Here, in order: what stays; pending handles; nodes behind which others are; variables; a record by its kind; a record walked over.
+-- Here, in order: what stays; pending handles; a graph at the first numbers; variables; a record by its kind; a record walked over.
 -- Assumes nothing.
 use Prim.Native.Nat.{ℕ, zero, suc, ◌+◌, ◌-◌, ◌*◌, ◌≤◌, ◌<◌}
 use native.Mathlib.Omega.{arith}
@@ -18,7 +18,7 @@ use Rattle.store.proofs.Writes.{length_rest}
 use Rattle.store.specs.Rows.{symbol_of}
 use Rattle.store.specs.declared.Head.TheVariants.{Makes, Calls}
 use Rattle.pool.proofs.Laws.{roots-step}
-use Rattle.asking.specs.Question.{Space, terms_at, Beside, terms_of, pre_terms, over, VarsPut, cell_at, cells, symbol_at, arity_at, nodes_after, terms_after, CanStep, Stepped}
+use Rattle.asking.specs.Question.{Space, terms_at, Beside, terms_of, pre_terms, over, VarsPut, cell_at, cells, symbol_at, arity_by, arity_at, nodes_after, terms_after, CanStep, Stepped}
 
 -- nothing was written
 pub beside_none : (L a b : ℕ) (s : List ℕ) → Beside L a b s s
@@ -115,11 +115,7 @@ taken_step L base d j v s l l' h h' g e f u =
     let w : List ℕ = drop k (rest_of L s) in
     roots-step l l' (terms_of d w) j v (omega arith) (omega (arith, terms-long d w)) e f (u ∙ sym (get_or-drop {A = ℕ} k (rest_of L s) (d - 1 - j) 0) ∙ sym (terms-at d j w g))
 
--- a graph at the first numbers: none, and one node more
-pub over-long : (g nodes : Graph) → length g ≤ length nodes → length (over g nodes) ≡ length nodes
-unfolding over
-over-long g nodes h = simp (length-append, length-drop) (omega arith)
-
+-- a graph at the first numbers: one node more
 pub over-set : (g nodes : Graph) (x : Node) → length g < length nodes → set (over g nodes) (length g) x ≡ over (g ++ x ∷ []) nodes
 unfolding over
 over-set g nodes x h =
@@ -134,9 +130,6 @@ over-over g h nodes l =
     ap (λ (t : Graph). g ++ t) (ap (λ (i : ℕ). drop i (h ++ drop (length h) nodes)) e ∙ drop-append-add h (drop (length h) nodes) (length g - length h) ∙ drop-drop (length g - length h) (length h) nodes ∙ ap (λ (i : ℕ). drop i nodes) (sym e))
 
 -- variables, one by one
-vars-more : (i : ℕ) → replicate i var ++ var ∷ [] ≡ replicate (i + 1) var
-vars-more i = replicate-append-replicate i 1 var
-
 pub vars-none : (L : ℕ) (s : List ℕ) → VarsPut L 0 s s
 unfolding over
 vars-none L s = record { graph = refl; rest = refl; beside = λ a b. beside_none L a b s }
@@ -146,7 +139,7 @@ vars-step L i s s' s'' h v d =
     let n : length (replicate i var) ≡ i = length-replicate i var in
     let e : set (over (replicate i var) (graph_of L s)) i var ≡ over (replicate i var ++ var ∷ []) (graph_of L s) = rw n at (over-set (replicate i var) (graph_of L s) var (omega (arith, length-graph L s, n))) in
     record {
-      graph = ap (λ (m : Memory). m.graph) d.is ∙ ap (λ (g : Graph). set g i var) v.graph ∙ e ∙ ap (λ (g : Graph). over g (graph_of L s)) (vars-more i);
+      graph = ap (λ (m : Memory). m.graph) d.is ∙ ap (λ (g : Graph). set g i var) v.graph ∙ e ∙ ap (λ (g : Graph). over g (graph_of L s)) (replicate-append-replicate i 1 var);
       rest = ap (λ (m : Memory). m.rest) d.is ∙ v.rest;
       beside = λ a b. beside-then (v.beside a b) (beside-node a b d);
     }
@@ -160,30 +153,24 @@ pub cell_other : (kind : ℕ) → (kind ≡ 10 → ⊥) → cell_at kind ≡ 1
 unfolding cell_at
 cell_other kind h = rw (ne_eqb kind 10 h, cell_at)
 
--- the nodes of the records, counted from the last record on
-cells-step : (q : List ℕ) (n left : ℕ) → 0 < left → left ≤ n → cells q (2 + 2 * (left - 1)) (n - (left - 1)) ≡ cell_at (get_or q (2 + 2 * (left - 1)) 0) + cells q (2 + 2 * left) (n - left)
+-- the nodes of the records from the k-th on, with those of the first k
+cells-step : (q : List ℕ) (n k : ℕ) → k < n → cells q (2 + 2 * k) (n - k) ≡ cell_at (get_or q (2 + 2 * k) 0) + cells q (2 + 2 * (k + 1)) (n - (k + 1))
 unfolding cells
-cells-step q n left h l =
-    let e : n - (left - 1) ≡ suc (n - left) = omega arith in
-    let f : 2 + 2 * (left - 1) + 2 ≡ 2 + 2 * left = omega arith in
-    rw (e, f)
+cells-step q n k h =
+    let e : n - k ≡ suc (n - (k + 1)) = omega arith in
+    let f : 2 + 2 * k + 2 ≡ 2 + 2 * (k + 1) = omega arith in
+    rw (e, cells, f)
 
-pub count-start : (q : List ℕ) (n : ℕ) → 0 ≡ cells q (2 + 2 * n) (n - n)
-unfolding cells
-count-start q n = let e : n - n ≡ 0 = omega arith in rw e
+module _ (q : List ℕ) (n k count : ℕ) where
+  pub count-more : k < n → (get_or q (2 + 2 * k) 0 ≡ 10 → ⊥) → count + cells q (2 + 2 * k) (n - k) ≡ cells q 2 n → count + 1 + cells q (2 + 2 * (k + 1)) (n - (k + 1)) ≡ cells q 2 n
+  count-more h t e = let a = cells-step q n k h in let b = cell_other _ t in omega arith
 
-module _ (q : List ℕ) (n left count : ℕ) where
-  pub count-more : 0 < left → left ≤ n → (get_or q (2 + 2 * (left - 1)) 0 ≡ 10 → ⊥) → count ≡ cells q (2 + 2 * left) (n - left) → count + 1 ≡ cells q (2 + 2 * (left - 1)) (n - (left - 1))
-  count-more h l k e = rw (cells-step q n left h l, cell_other _ k) (omega arith)
+  pub count_same : k < n → get_or q (2 + 2 * k) 0 ≡ 10 → count + cells q (2 + 2 * k) (n - k) ≡ cells q 2 n → count + cells q (2 + 2 * (k + 1)) (n - (k + 1)) ≡ cells q 2 n
+  count_same h t e = let a = cells-step q n k h in let b = cell-fresh _ t in omega arith
 
-  pub count_same : 0 < left → left ≤ n → get_or q (2 + 2 * (left - 1)) 0 ≡ 10 → count ≡ cells q (2 + 2 * left) (n - left) → count ≡ cells q (2 + 2 * (left - 1)) (n - (left - 1))
-  count_same h l k e = rw (cells-step q n left h l, cell-fresh _ k) (omega arith)
-
-  pub count-end : left ≤ 0 → count ≡ cells q (2 + 2 * left) (n - left) → count ≡ cells q 2 n
-  count-end h e =
-      let a : 2 + 2 * left ≡ 2 = omega arith in
-      let b : n - left ≡ n = omega arith in
-      rw (a, b) at e
+  pub count-end : n ≤ k → count + cells q (2 + 2 * k) (n - k) ≡ cells q 2 n → count ≡ cells q 2 n
+  unfolding cells
+  count-end h e = let a : n - k ≡ 0 = omega arith in let b : count + 0 ≡ cells q 2 n = rw a at e in omega arith
 
 -- heads of cells
 pub makes-con : (n : ℕ) → symbol_of (Makes (record { 0 = n })) ≡ con n
@@ -205,19 +192,17 @@ module _ (kind n : ℕ) where
 
   module _ (base : ℕ) (rest : List ℕ) where
     pub arity-con : kind ≡ 7 → arity_at base rest kind n ≡ get_or rest (base + 768 + n) 0
-    unfolding arity_at
-    arity-con h = rw (eq-eqb kind 7 h, arity_at)
+    unfolding arity_at arity_by
+    arity-con h = rw (symbol-con h)
 
     pub arity-fun : (kind ≡ 7 → ⊥) → arity_at base rest kind n ≡ get_or rest (base + 512 + n) 0
+    unfolding arity_at arity_by
+    arity-fun h = rw (symbol-fun h)
+
+    -- by the head that was made for it
+    pub arity-is : (y : Symbol) (r : ℕ) → r ≡ arity_by base rest y → y ≡ symbol_at kind n → r ≡ arity_at base rest kind n
     unfolding arity_at
-    arity-fun h = rw (ne_eqb kind 7 h, arity_at)
-
-    -- the word that was read
-    pub arity-is-con : (n' r : ℕ) → kind ≡ 7 → r ≡ get_or rest (base + 768 + n') 0 → n' ≡ n → r ≡ arity_at base rest kind n
-    arity-is-con n' r h e f = e ∙ (rw f) ∙ sym (arity-con h)
-
-    pub arity-is-fun : (n' r : ℕ) → (kind ≡ 7 → ⊥) → r ≡ get_or rest (base + 512 + n') 0 → n' ≡ n → r ≡ arity_at base rest kind n
-    arity-is-fun n' r h e f = e ∙ (rw f) ∙ sym (arity-fun h)
+    arity-is y r e f = e ∙ (rw f)
 
   module _ (a made : ℕ) (g : Graph) (T : List ℕ) where
     pub nodes-fresh : kind ≡ 10 → nodes_after kind n a made g T ≡ g

@@ -7,7 +7,7 @@
 -- Here, in order: room; an accepted question; what stays; pending handles; nodes behind which others are; one record; all of them; the answer.
 -- Not here: that the records give the question's term (proofs), the machine's run (machine).
 -- Assumes nothing.
-use Rattle.std.specs.Prelude.{ℕ, zero, suc, ◌+◌, ◌*◌, ◌≤◌, ◌<◌, List, [], ◌∷◌, ◌++◌, map, true, false, ◌≡◌, length, get_or, take, drop, set, replicate, eqb}
+use Rattle.std.specs.Prelude.{Option as Maybe, Some, None, IfSome, IfNone, ℕ, zero, suc, ◌+◌, ◌*◌, ◌≤◌, ◌<◌, List, [], ◌∷◌, ◌++◌, map, true, false, ◌≡◌, length, get_or, take, drop, set, replicate, eqb}
 use Rattle.std.proofs.Math.Option.{Option, none, some}
 use Rattle.book.specs.Syntax.{Symbol, con, fun, Right, arity, Book, con_arities}
 use Rattle.book.specs.Record.{got}
@@ -91,9 +91,13 @@ cells q k (suc n) = cell_at (get_or q k 0) + cells q (k + 2) n
 unfoldable pub symbol_at : ℕ → ℕ → Symbol
 symbol_at kind n = elim (eqb kind 7) [ true ↦ con n | false ↦ fun n ]
 
--- its arity, by the tables
+-- a symbol's arity, by the tables; and the one of a CON or a CALL
+unfoldable pub arity_by : ℕ → List ℕ → Symbol → ℕ
+arity_by base rest (con c) = get_or rest (base + 768 + c) 0
+arity_by base rest (fun f) = get_or rest (base + 512 + f) 0
+
 unfoldable pub arity_at : ℕ → List ℕ → ℕ → ℕ → ℕ
-arity_at base rest kind n = elim (eqb kind 7) [ true ↦ get_or rest (base + 768 + n) 0 | false ↦ get_or rest (base + 512 + n) 0 ]
+arity_at base rest kind n = arity_by base rest (symbol_at kind n)
 
 -- the nodes after a record, with the arity a, the number `made` of the next node, and the handles T that are pending
 unfoldable pub nodes_after : ℕ → ℕ → ℕ → ℕ → Graph → List ℕ → Graph
@@ -129,16 +133,14 @@ pub record WalkDone (L base : ℕ) (right : Right) (s s' : List ℕ) (r : Walk) 
   pub beside : Beside L (base + terms_at) (base + terms_end) s s'
 
 -- the store and the computation, if there was room
-unfoldable pub answer_of : ℕ → List ℕ → Built → Option (Store × m.Held)
-answer_of L s r = elim r.fits [
-  | true ↦ some (store_of L r.made s, held_in L s (record { roots = r.roots; top = 0 }))
-  | false ↦ none
-]
+unfoldable pub answer_of : ℕ → List ℕ → Maybe Built → Option (Store × m.Held)
+answer_of L s (Some b) = some (store_of L b.made s, held_in L s (record { roots = b.roots; top = 0 }))
+answer_of L s None = none
 
 -- the question was asked: what the definition lays down, with as many nodes; and where they do not fit nothing is written
-pub record Asked (L base : ℕ) {s q : List ℕ} (x : AskedOf L base s q) (s' : List ℕ) (r : Built) : Type 0 where
+pub record Asked (L base : ℕ) {s q : List ℕ} (x : AskedOf L base s q) (s' : List ℕ) (r : Maybe Built) : Type 0 where
   pub is : pour (start x.right) (store_of L 0 s) ≡ answer_of L s' r
-  pub made : r.fits ≡ true → r.made ≡ length (start x.right).graph
-  pub kept : r.fits ≡ false → s' ≡ s
-  pub count : r.roots.n ≡ suc x.right.vars
+  pub made : IfSome r (λ b. b.made ≡ length (start x.right).graph)
+  pub count : IfSome r (λ b. b.roots.n ≡ suc x.right.vars)
+  pub kept : IfNone r (s' ≡ s)
   pub beside : Beside L (base + terms_at) (base + terms_end) s s'

@@ -4,13 +4,12 @@
 ghost use Rattle.std.specs.Prelude.{◌≡◌, ℕ, suc, ◌+◌, ◌*◌, ◌<◌, ◌≤◌, ◌∷◌, length, get_or, take};
 ghost use Rattle.heap.specs.Build.{up_from};
 ghost use Rattle.store.specs.Rows.{symbol_of};
-ghost use Rattle.store.specs.Regions.{Room, rest_of};
-ghost use Rattle.pool.specs.Ring.{roots_of};
-ghost use Rattle.asking.specs.Question.{Space, AskedOf, pre_terms, cells, symbol_at, arity_at, CanStep, Stepped, VarsPut, WalkDone, Asked};
+ghost use Rattle.store.specs.Roots.{roots_of};
+ghost use Rattle.store.specs.Whole.{rest, SameLoan};
+ghost use Rattle.asking.specs.Question.{Space, AskedOf, pre_terms, cells, symbol_at, arity_by, CanStep, Stepped, VarsPut, WalkDone, Asked};
 
-use book::{ConNo, FunNo};
-use pool::Roots;
-use store::{Head, NodeNo};
+use book::{ConNo, FunNo, Kind};
+use store::{Head, NodeNo, Roots, Store};
 
 // How far the walk over the records is: nodes made, handles pending.
 #[derive(Clone, Copy)]
@@ -19,18 +18,11 @@ pub struct Walk {
     pub depth: usize,
 }
 
-// What came of a question: whether its nodes fit, how many were made, and the computation's handles; its stack is empty.
+// What was built of a question: how many nodes were made, and the computation's handles; its stack is empty.
 #[derive(Clone, Copy)]
 pub struct Built {
-    pub fits: bool,
     pub made: usize,
     pub roots: Roots,
-}
-
-pub fn wide(x: u8) -> usize
-    ensures { result ≡ x }
-{
-    x as usize
 }
 
 // How many of the n records of the term make a node: all but the FRESHs.
@@ -38,11 +30,9 @@ pub fn count_cells(q: &[u8], n: usize) -> usize
     requires { 2 + 2 * n ≤ length q.now }
     ensures { (result ≡ cells q.now 2 n) × (result ≤ n) }
 {
-    let mut left = n;
-    let mut count: usize = 0;
-    while 0 < left {
-        left -= 1;
-        if q[2 + 2 * left] != 10 {
+    let mut count = 0;
+    for k in 0..n {
+        if q[2 + 2 * k] != Kind::Fresh as u8 {
             count += 1;
         }
     }
@@ -50,83 +40,74 @@ pub fn count_cells(q: &[u8], n: usize) -> usize
 }
 
 // The first nodes become variables.
-pub fn put_vars(s: &mut [u8], limit: usize, vars: usize)
-    requires room { Room limit s.old }
-    requires vars_le_limit { vars ≤ limit }
-    ensures { VarsPut limit vars s.old s.new }
+pub fn put_vars(store: &mut Store, vars: usize)
+    requires vars_le_limit { vars ≤ store.old.limit }
+    ensures loan { SameLoan store.old store.new }
+    ensures vars { VarsPut store.old.limit vars store.old.bytes.now store.new.bytes.now }
 {
-    let mut i: usize = 0;
-    while i < vars {
-        store::put_var(s, limit, NodeNo(i as u16));
-        i += 1;
+    for i in 0..vars {
+        store.put_var(NodeNo(i as u16));
     }
 }
 
-// How many arguments the symbol of a CON or a CALL takes.
-pub fn arity_of(s: &[u8], limit: usize, base: usize, kind: u8, n: u8) -> u16
-    requires { Space limit base s.now }
-    ensures { result ≡ arity_at base (rest_of limit s.now) kind n }
+// How many arguments a symbol takes, by the tables.
+pub fn arity_of(store: &Store, base: usize, head: Head) -> u16
+    requires { Space store.now.limit base store.now.bytes.now }
+    ensures { result ≡ arity_by base (rest store.now) (symbol_of head) }
 {
-    if kind == 7 {
-        return store::get_rest(s, limit, base + 768 + wide(n));
+    match head {
+        Head::Makes(c) => store.rest(base + 768 + c.0 as usize),
+        Head::Calls(f) => store.rest(base + 512 + f.0 as usize),
     }
-    store::get_rest(s, limit, base + 512 + wide(n))
 }
 
 // The symbol of a CON or a CALL.
 pub fn head_of(kind: u8, n: u8) -> Head
     ensures { symbol_of result ≡ symbol_at kind n }
 {
-    if kind == 7 {
-        return Head::Makes(ConNo(n));
+    if kind == Kind::Con as u8 {
+        Head::Makes(ConNo(n))
+    } else {
+        Head::Calls(FunNo(n))
     }
-    Head::Calls(FunNo(n))
 }
 
 // The first of the pending handles, the last that came first.
-pub fn take_terms(s: &[u8], limit: usize, base: usize, depth: usize, a: u16) -> [u16; 8]
-    requires space { Space limit base s.now }
+pub fn take_terms(store: &Store, base: usize, depth: usize, a: u16) -> [u16; 8]
+    requires space { Space store.now.limit base store.now.bytes.now }
     requires a_bound { (a ≤ 8) × (a ≤ depth) × (depth ≤ 320) }
-    ensures { take a result ≡ take a (pre_terms limit base s.now depth) }
+    ensures { take a result ≡ take a (pre_terms store.now.limit base store.now.bytes.now depth) }
 {
-    let mut args: [u16; 8] = [0; 8];
+    let mut args = [0; 8];
     let n = a as usize;
-    let mut j: usize = 0;
-    while j < n {
-        args[j] = store::get_rest(s, limit, base + 2696 + (depth - 1 - j));
-        j += 1;
+    for j in 0..n {
+        args[j] = store.rest(base + 2696 + (depth - 1 - j));
     }
     args
 }
 
 // One record: a FRESH's variable is pending; a symbol takes its arguments from the pending handles, and its node is pending.
-pub fn step(
-    s: &mut [u8],
-    limit: usize,
-    base: usize,
-    kind: u8,
-    n: u8,
-    made: usize,
-    depth: usize,
-) -> Walk
-    requires { CanStep limit base made depth kind n s.old }
-    ensures { Stepped limit base made depth kind n s.old s.new result }
+pub fn step(store: &mut Store, base: usize, kind: u8, n: u8, w: Walk) -> Walk
+    requires { CanStep store.old.limit base w.made w.depth kind n store.old.bytes.now }
+    ensures loan { SameLoan store.old store.new }
+    ensures stepped { Stepped store.old.limit base w.made w.depth kind n store.old.bytes.now store.new.bytes.now result }
 {
     let top = base + 2696;
-    if kind == 10 {
-        store::put_rest(s, limit, top + depth, n as u16);
+    let Walk { made, depth } = w;
+    if kind == Kind::Fresh as u8 {
+        store.put_rest(top + depth, n as u16);
         return Walk {
             made,
             depth: depth + 1,
         };
     }
-    let a = arity_of(s, limit, base, kind, n);
-    let args = take_terms(s, limit, base, depth, a);
     let head = head_of(kind, n);
+    let a = arity_of(store, base, head);
+    let args = take_terms(store, base, depth, a);
     let node = made as u16;
-    store::put_cell(s, limit, NodeNo(node), head, args, a);
-    let d = depth - (a as usize);
-    store::put_rest(s, limit, top + d, node);
+    store.put_cell(NodeNo(node), head, args, a);
+    let d = depth - a as usize;
+    store.put_rest(top + d, node);
     Walk {
         made: made + 1,
         depth: d + 1,
@@ -134,23 +115,22 @@ pub fn step(
 }
 
 // The n records of the term, from the last to the first.
-pub fn walk_back(s: &mut [u8], limit: usize, base: usize, q: &[u8], n: usize, vars: usize) -> Walk
-    requires space { Space limit base s.old }
-    requires asked_of { AskedOf limit base s.old q.now }
-    requires q_len { (length q.now ≡ 2 + 2 * n) × (vars ≡ get_or q.now 1 0) × (vars + cells q.now 2 n ≤ limit) }
-    ensures { (x : AskedOf limit base s.old q.now) → WalkDone limit base x.right s.old s.new result }
+pub fn walk_back(store: &mut Store, base: usize, q: &[u8], n: usize, vars: usize) -> Walk
+    requires space { Space store.old.limit base store.old.bytes.now }
+    requires asked_of { AskedOf store.old.limit base store.old.bytes.now q.now }
+    requires q_len { (length q.now ≡ 2 + 2 * n) × (vars ≡ get_or q.now 1 0) × (vars + cells q.now 2 n ≤ store.old.limit) }
+    ensures loan { SameLoan store.old store.new }
+    ensures done { (x : AskedOf store.old.limit base store.old.bytes.now q.now) → WalkDone store.old.limit base x.right store.old.bytes.now store.new.bytes.now result }
 {
-    let mut left = n;
-    let mut made = vars;
-    let mut depth: usize = 0;
-    while 0 < left {
-        left -= 1;
-        let at = 2 + 2 * left;
-        let w = step(s, limit, base, q[at], q[at + 1], made, depth);
-        made = w.made;
-        depth = w.depth;
+    let mut w = Walk {
+        made: vars,
+        depth: 0,
+    };
+    for k in (0..n).rev() {
+        let at = 2 + 2 * k;
+        w = step(store, base, q[at], q[at + 1], w);
     }
-    Walk { made, depth }
+    w
 }
 
 // The handles of a question: its value, then the variables.
@@ -158,40 +138,32 @@ pub fn first_roots(value: u16, vars: usize) -> Roots
     requires { vars ≤ 8 }
     ensures { (result.n ≡ suc vars) × (roots_of result ≡ value ∷ up_from 0 vars) }
 {
-    let mut at: [u16; 9] = [0; 9];
-    let mut j: usize = 0;
+    let mut at = [0; 9];
     at[0] = value;
-    while j < vars {
+    for j in 0..vars {
         at[j + 1] = j as u16;
-        j += 1;
     }
     Roots { n: vars + 1, at }
 }
 
 // An accepted question's computation at the first free numbers; where its nodes do not fit, nothing is written.
-pub fn build_question(s: &mut [u8], limit: usize, base: usize, q: &[u8]) -> Built
-    requires space { Space limit base s.old }
-    requires asked_of { AskedOf limit base s.old q.now }
-    ensures { (x : AskedOf limit base s.old q.now) → Asked limit base x s.new result }
+pub fn build_question(store: &mut Store, base: usize, q: &[u8]) -> Option<Built>
+    requires space { Space store.old.limit base store.old.bytes.now }
+    requires asked_of { AskedOf store.old.limit base store.old.bytes.now q.now }
+    ensures loan { SameLoan store.old store.new }
+    ensures asked { (x : AskedOf store.old.limit base store.old.bytes.now q.now) → Asked store.old.limit base x store.new.bytes.now result }
 {
-    let vars = wide(q[1]);
+    let vars = q[1] as usize;
     let n = (q.len() - 2) / 2;
     let cells = count_cells(q, n);
-    if limit < vars + cells {
-        let none = first_roots(0, vars);
-        return Built {
-            fits: false,
-            made: 0,
-            roots: none,
-        };
+    if store.limit < vars + cells {
+        return None;
     }
-    put_vars(s, limit, vars);
-    let w = walk_back(s, limit, base, q, n, vars);
-    let value = store::get_rest(s, limit, base + 2696);
-    let roots = first_roots(value, vars);
-    Built {
-        fits: true,
+    put_vars(store, vars);
+    let w = walk_back(store, base, q, n, vars);
+    let value = store.rest(base + 2696);
+    Some(Built {
         made: w.made,
-        roots,
-    }
+        roots: first_roots(value, vars),
+    })
 }

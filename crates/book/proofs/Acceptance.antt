@@ -10,9 +10,9 @@ use lib.ListN.{length, get_or, replicate, length-append, length-map, get_or-map,
 use lib.Dec.{leb, ltb, eqb}
 use borrow.Author.Tests.{ltb-true, ltb-false, leb-true, eqb-true, eqb-false}
 use Rattle.book.specs.Syntax.{Symbol, con, fun, Right, Tree, norule, Func, arity, Book, con_arities, cons_of}
-use Rattle.book.specs.declared.Rec.{Rec}
-use Rattle.book.specs.declared.Rec.TheVariants.{Of, Bad}
-use Rattle.book.specs.Record.{Got, got, fault, rec_at, scan, book_fits, any_fits, funcs_from, func_arities}
+use Rattle.std.specs.Prelude.{Result, Ok, Err}
+use Rattle.book.specs.declared.Fault.{Fault}
+use Rattle.book.specs.Record.{Rec, Got, got, fault, rec_at, scan, book_fits, any_fits, funcs_from, func_arities}
 use Rattle.book.specs.Reading.{after, make, pick, read_right, read_cons, is_kind, read_types, read_funcs, read_book, last, read_alone, read_question}
 use Rattle.book.specs.Accepted.{arity_in, FineRight, FineTree, FineFunc, FineBook}
 use Rattle.book.proofs.Passing.{rec-ends, rec-goes, funcs-end, funcs-take, funcs-pass, scan-ends, scan-faults, scan-refuses, scan-takes, scan-passes, arities, arities-take, Past, Fair, fair, lost, fair-here, fair-make, fair-after, fair-pick}
@@ -107,11 +107,11 @@ module _ (s : List ℕ) (types : List (List ℕ)) (funcs : List ℕ) where
   func-ends k f a t q h (fault w p) i = tt
 
   tree-ends : (n k : ℕ) → ((k : ℕ) → length s ≤ n + k → k ≤ length s → Ended k (read_funcs n s types funcs k)) → length s ≤ suc n + k
-      → {kind a b e : ℕ} → rec_at s k ≡ Of kind a b e → kind ≡ 3 → a ≤ 8 → {x : Got Tree} → Fair s e (FineTree types funcs (replicate a 1)) x → Ended k (following n a x)
+      → {r : Rec} → rec_at s k ≡ Ok r → r.kind ≡ 3 → r.a ≤ 8 → {x : Got Tree} → Fair s r.end (FineTree types funcs (replicate r.a 1)) x → Ended k (following n r.a x)
   unfolding after
-  tree-ends n k ih l {kind} {a} {b} {e} q u h (fair {a = t} {e = f} p g) =
+  tree-ends n k ih l {r} q u h (fair {a = t} {e = f} p g) =
       let d = rec-goes s k q in
-      func-ends k f a t (arities-take s k q u ∙ ap (λ (l : List ℕ). a ∷ l) p.quiet) (h, g) (read_funcs n s types funcs f) (ih f (omega (arith, p.on)) (p.within d.1))
+      func-ends k f r.a t (arities-take s k q u ∙ ap (λ (l : List ℕ). r.a ∷ l) p.quiet) (h, g) (read_funcs n s types funcs f) (ih f (omega (arith, p.on)) (p.within d.1))
   tree-ends n k ih l q u h lost = tt
 
   funcs-end-well : (n k : ℕ) → length s ≤ n + k → k ≤ length s → Ended k (read_funcs n s types funcs k)
@@ -119,14 +119,14 @@ module _ (s : List ℕ) (types : List (List ℕ)) (funcs : List ℕ) where
   funcs-end-well zero k l h = (omega arith, funcs-end s (length s) k (rec-ends s k (omega arith)), λ f other p. absurd (not-suc-le-zero p))
   funcs-end-well (suc n) k l h = go (funcs-end-well n) (ltb k (length s)) refl
     where
-      fits : ((k : ℕ) → length s ≤ n + k → k ≤ length s → Ended k (read_funcs n s types funcs k)) → ltb k (length s) ≡ true → {kind a b e : ℕ} → rec_at s k ≡ Of kind a b e → (u : Bool) → eqb kind 3 ≡ u → (v : Bool) → leb a 8 ≡ v → Ended k (read_funcs (suc n) s types funcs k)
-      fits ih t {kind} {a} {b} {e} q false u v w = rw (t, read_funcs, q, pick, u) tt
-      fits ih t {kind} {a} {b} {e} q true u false w = rw (t, read_funcs, q, pick, u, w) tt
-      fits ih t {kind} {a} {b} {e} q true u true w = rw (t, read_funcs, q, pick, u, w) (tree-ends n k ih l q (eqb-true kind 3 u) (leb-true a 8 w) (tree-fair s types funcs (suc (length s)) (replicate a 1) e))
+      fits : ((k : ℕ) → length s ≤ n + k → k ≤ length s → Ended k (read_funcs n s types funcs k)) → ltb k (length s) ≡ true → {r : Rec} → rec_at s k ≡ Ok r → (u : Bool) → eqb r.kind 3 ≡ u → (v : Bool) → leb r.a 8 ≡ v → Ended k (read_funcs (suc n) s types funcs k)
+      fits ih t {r} q false u v w = rw (t, read_funcs, q, pick, u) tt
+      fits ih t {r} q true u false w = rw (t, read_funcs, q, pick, u, w) tt
+      fits ih t {r} q true u true w = rw (t, read_funcs, q, pick, u, w) (tree-ends n k ih l q (eqb-true r.kind 3 u) (leb-true r.a 8 w) (tree-fair s types funcs (suc (length s)) (replicate r.a 1) r.end))
 
-      kinds : ((k : ℕ) → length s ≤ n + k → k ≤ length s → Ended k (read_funcs n s types funcs k)) → ltb k (length s) ≡ true → (r : Rec) → rec_at s k ≡ r → Ended k (read_funcs (suc n) s types funcs k)
-      kinds ih t (Bad w) q = rw (t, read_funcs, q, pick) tt
-      kinds ih t (Of kind a b e) q = fits ih t q (eqb kind 3) refl (leb a 8) refl
+      kinds : ((k : ℕ) → length s ≤ n + k → k ≤ length s → Ended k (read_funcs n s types funcs k)) → ltb k (length s) ≡ true → (r : Result Rec Fault) → rec_at s k ≡ r → Ended k (read_funcs (suc n) s types funcs k)
+      kinds ih t (Err w) q = rw (t, read_funcs, q, pick) tt
+      kinds ih t (Ok r) q = fits ih t q (eqb r.kind 3) refl (leb r.a 8) refl
 
       go : ((k : ℕ) → length s ≤ n + k → k ≤ length s → Ended k (read_funcs n s types funcs k)) → (b : Bool) → ltb k (length s) ≡ b → Ended k (read_funcs (suc n) s types funcs k)
       go ih false t = (let d = ltb-false k (length s) t in rw (t, read_funcs) (omega arith, funcs-end s (length s) k (rec-ends s k d), λ f other p. absurd (not-suc-le-zero p)))
@@ -150,19 +150,19 @@ unfolding scan funcs_from
 scan-few s zero f k h = omega arith
 scan-few s (suc n) f k h = go (scan-few s n) (ltb k (length s)) refl
   where
-    fits : ((f k : ℕ) → f ≤ 256 → Few f (funcs_from s n k) (scan s book_fits n f k)) → k < length s → {kind a b e : ℕ} → rec_at s k ≡ Of kind a b e → (u : Bool) → book_fits f kind a ≡ u → (v : Bool) → eqb kind 3 ≡ v → Few f (funcs_from s (suc n) k) (scan s book_fits (suc n) f k)
+    fits : ((f k : ℕ) → f ≤ 256 → Few f (funcs_from s n k) (scan s book_fits n f k)) → k < length s → {r : Rec} → rec_at s k ≡ Ok r → (u : Bool) → book_fits f r.kind r.a ≡ u → (v : Bool) → eqb r.kind 3 ≡ v → Few f (funcs_from s (suc n) k) (scan s book_fits (suc n) f k)
     fits ih t q false u v w = subst (Few f _) (sym (scan-refuses s book_fits n f k t q u)) tt
-    fits ih t {kind} {a} {b} {e} q true u true w =
-        let is = eqb-true kind 3 w in
-        let below = fits-few f kind a w u in
-        subst₂ (Few f) (sym (funcs-take s n k q is)) (sym (scan-takes s book_fits n f k t q u is)) (one_fewer f a (funcs_from s n e) (scan s book_fits n (suc f) e) (ih (suc f) e below))
-    fits ih t {kind} {a} {b} {e} q true u false w =
-        let other = eqb-false kind 3 w in
-        subst₂ (Few f) (sym (funcs-pass s n k q other)) (sym (scan-passes s book_fits n f k t q u other)) (ih f e h)
+    fits ih t {r} q true u true w =
+        let is = eqb-true r.kind 3 w in
+        let below = fits-few f r.kind r.a w u in
+        subst₂ (Few f) (sym (funcs-take s n k q is)) (sym (scan-takes s book_fits n f k t q u is)) (one_fewer f r.a (funcs_from s n r.end) (scan s book_fits n (suc f) r.end) (ih (suc f) r.end below))
+    fits ih t {r} q true u false w =
+        let other = eqb-false r.kind 3 w in
+        subst₂ (Few f) (sym (funcs-pass s n k q other)) (sym (scan-passes s book_fits n f k t q u other)) (ih f r.end h)
 
-    kinds : ((f k : ℕ) → f ≤ 256 → Few f (funcs_from s n k) (scan s book_fits n f k)) → k < length s → (r : Rec) → rec_at s k ≡ r → Few f (funcs_from s (suc n) k) (scan s book_fits (suc n) f k)
-    kinds ih t (Bad w) q = subst (Few f _) (sym (scan-faults s book_fits n f k t q)) tt
-    kinds ih t (Of kind a b e) q = fits ih t q (book_fits f kind a) refl (eqb kind 3) refl
+    kinds : ((f k : ℕ) → f ≤ 256 → Few f (funcs_from s n k) (scan s book_fits n f k)) → k < length s → (r : Result Rec Fault) → rec_at s k ≡ r → Few f (funcs_from s (suc n) k) (scan s book_fits (suc n) f k)
+    kinds ih t (Err w) q = subst (Few f _) (sym (scan-faults s book_fits n f k t q)) tt
+    kinds ih t (Ok r) q = fits ih t q (book_fits f r.kind r.a) refl (eqb r.kind 3) refl
 
     go : ((f k : ℕ) → f ≤ 256 → Few f (funcs_from s n k) (scan s book_fits n f k)) → (b : Bool) → ltb k (length s) ≡ b → Few f (funcs_from s (suc n) k) (scan s book_fits (suc n) f k)
     go ih false t =

@@ -11,11 +11,12 @@ use borrow.Author.Tests.{ltb-true, ltb-false, le-ltb, eqb-true, eqb-false}
 use Rattle.book.specs.Syntax.{Terms, Tree, split, child, cons_of}
 use Rattle.book.specs.declared.Sort.{Sort}
 use Rattle.book.specs.declared.Sort.TheVariants.{Range, Unexpected}
-use Rattle.book.specs.declared.Rec.{Rec}
-use Rattle.book.specs.declared.Rec.TheVariants.{Of, Bad}
-use Rattle.book.specs.Record.{Got, got, fault, rec_at, scan, funcs_from, func_arities}
+use Rattle.std.specs.Prelude.{Result, Ok, Err}
+use Rattle.book.specs.declared.Fault.{Fault}
+use Rattle.book.specs.Record.{Rec, Got, got, fault, rec_at, scan, funcs_from, func_arities}
 use Rattle.book.specs.Reading.{after, make, Case, pick, Names, slot_case, read_head, read_terms, Slots, under, read_trees, read_tree, read_cons, is_kind, read_types, read_funcs}
 use Rattle.book.specs.Accepted.{count}
+use Rattle.book.proofs.Records.{err-known}
 use Rattle.book.proofs.Passing.{rec-ends, rec-goes, funcs-enough, scan-ends, scan-faults, scan-refuses, scan-takes, scan-passes, fair-got}
 use Rattle.book.proofs.Fairness.{both_hold, terms-fair, tree-fair}
 
@@ -25,21 +26,21 @@ scan-enough s fits zero m f k h l = let d : length s ≤ k = omega arith in scan
 scan-enough s fits (suc n) zero f k h l = let d : length s ≤ k = omega arith in scan-ends s fits (suc n) f k d ∙ sym (scan-ends s fits zero f k d)
 scan-enough s fits (suc n) (suc m) f k h l = go (scan-enough s fits n m) (ltb k (length s)) refl
   where
-    tests : ((f k : ℕ) → length s ≤ n + k → length s ≤ m + k → scan s fits n f k ≡ scan s fits m f k) → k < length s → {kind a b e : ℕ} → rec_at s k ≡ Of kind a b e
-        → (u : Bool) → fits f kind a ≡ u → (v : Bool) → eqb kind 3 ≡ v → scan s fits (suc n) f k ≡ scan s fits (suc m) f k
+    tests : ((f k : ℕ) → length s ≤ n + k → length s ≤ m + k → scan s fits n f k ≡ scan s fits m f k) → k < length s → {r : Rec} → rec_at s k ≡ Ok r
+        → (u : Bool) → fits f r.kind r.a ≡ u → (v : Bool) → eqb r.kind 3 ≡ v → scan s fits (suc n) f k ≡ scan s fits (suc m) f k
     tests ih t q false u v w = scan-refuses s fits n f k t q u ∙ sym (scan-refuses s fits m f k t q u)
-    tests ih t {kind} {a} {b} {e} q true u true w =
+    tests ih t {r} q true u true w =
         let p = rec-goes s k q in
-        let is = eqb-true kind 3 w in
-        scan-takes s fits n f k t q u is ∙ ih (suc f) e (omega arith) (omega arith) ∙ sym (scan-takes s fits m f k t q u is)
-    tests ih t {kind} {a} {b} {e} q true u false w =
+        let is = eqb-true r.kind 3 w in
+        scan-takes s fits n f k t q u is ∙ ih (suc f) r.end (omega arith) (omega arith) ∙ sym (scan-takes s fits m f k t q u is)
+    tests ih t {r} q true u false w =
         let p = rec-goes s k q in
-        let other = eqb-false kind 3 w in
-        scan-passes s fits n f k t q u other ∙ ih f e (omega arith) (omega arith) ∙ sym (scan-passes s fits m f k t q u other)
+        let other = eqb-false r.kind 3 w in
+        scan-passes s fits n f k t q u other ∙ ih f r.end (omega arith) (omega arith) ∙ sym (scan-passes s fits m f k t q u other)
 
-    kinds : ((f k : ℕ) → length s ≤ n + k → length s ≤ m + k → scan s fits n f k ≡ scan s fits m f k) → k < length s → (r : Rec) → rec_at s k ≡ r → scan s fits (suc n) f k ≡ scan s fits (suc m) f k
-    kinds ih t (Bad w) q = scan-faults s fits n f k t q ∙ sym (scan-faults s fits m f k t q)
-    kinds ih t (Of kind a b e) q = tests ih t q (fits f kind a) refl (eqb kind 3) refl
+    kinds : ((f k : ℕ) → length s ≤ n + k → length s ≤ m + k → scan s fits n f k ≡ scan s fits m f k) → k < length s → (r : Result Rec Fault) → rec_at s k ≡ r → scan s fits (suc n) f k ≡ scan s fits (suc m) f k
+    kinds ih t (Err w) q = scan-faults s fits n f k t q ∙ sym (scan-faults s fits m f k t q)
+    kinds ih t (Ok r) q = tests ih t q (fits f r.kind r.a) refl (eqb r.kind 3) refl
 
     go : ((f k : ℕ) → length s ≤ n + k → length s ≤ m + k → scan s fits n f k ≡ scan s fits m f k) → (b : Bool) → ltb k (length s) ≡ b → scan s fits (suc n) f k ≡ scan s fits (suc m) f k
     go ih true t = kinds ih (ltb-true k (length s) t) (rec_at s k) refl
@@ -61,31 +62,31 @@ SameCases k [] (d ∷ ds) = ⊥
 SameCases k (c ∷ cs) [] = ⊥
 SameCases k (c ∷ cs) (d ∷ ds) = (c.kind ≡ d.kind) × (c.fits ≡ d.fits) × ((a b e : ℕ) → k < e → c.fits a b ≡ true → c.read a b e ≡ d.read a b e) × SameCases k cs ds
 
-pick_same : {A : Type 0} (s : List ℕ) (k : ℕ) (cs ds : List (Case A)) → SameCases k cs ds → (r : Rec) → rec_at s k ≡ r → pick cs k r ≡ pick ds k r
+pick_same : {A : Type 0} (s : List ℕ) (k : ℕ) (cs ds : List (Case A)) → SameCases k cs ds → (r : Result Rec Fault) → rec_at s k ≡ r → pick cs k r ≡ pick ds k r
 unfolding pick
-pick_same s k [] [] h (Bad w) q = refl
-pick_same s k [] [] h (Of kind a b e) q = refl
+pick_same s k [] [] h (Err w) q = refl
+pick_same s k [] [] h (Ok r) q = refl
 pick_same s k [] (d ∷ ds) h r q = absurd h
 pick_same s k (c ∷ cs) [] h r q = absurd h
-pick_same s k (c ∷ cs) (d ∷ ds) h (Bad w) q = refl
-pick_same s k (c ∷ cs) (d ∷ ds) h (Of kind a b e) q = go (pick_same s k cs ds h.3 (Of kind a b e) q) (eqb kind c.kind) refl (c.fits a b) refl
+pick_same s k (c ∷ cs) (d ∷ ds) h (Err w) q = refl
+pick_same s k (c ∷ cs) (d ∷ ds) h (Ok r) q = go (pick_same s k cs ds h.3 (Ok r) q) (eqb r.kind c.kind) refl (c.fits r.a r.b) refl
   where
-    p : (k < e) × (e ≤ length s)
+    p : (k < r.end) × (r.end ≤ length s)
     p = rec-goes s k q
 
-    kinds : eqb kind d.kind ≡ eqb kind c.kind
-    kinds = ap (eqb kind) (sym h.0)
+    kinds : eqb r.kind d.kind ≡ eqb r.kind c.kind
+    kinds = ap (eqb r.kind) (sym h.0)
 
-    tests : d.fits a b ≡ c.fits a b
-    tests = ap (λ (f : ℕ → ℕ → Bool). f a b) (sym h.1)
+    tests : d.fits r.a r.b ≡ c.fits r.a r.b
+    tests = ap (λ (f : ℕ → ℕ → Bool). f r.a r.b) (sym h.1)
 
-    go : pick cs k (Of kind a b e) ≡ pick ds k (Of kind a b e) → (t : Bool) → eqb kind c.kind ≡ t → (u : Bool) → c.fits a b ≡ u → pick (c ∷ cs) k (Of kind a b e) ≡ pick (d ∷ ds) k (Of kind a b e)
+    go : pick cs k (Ok r) ≡ pick ds k (Ok r) → (t : Bool) → eqb r.kind c.kind ≡ t → (u : Bool) → c.fits r.a r.b ≡ u → pick (c ∷ cs) k (Ok r) ≡ pick (d ∷ ds) k (Ok r)
     go ih false t u v = rw (kinds, t, pick) ih
     go ih true t false u = rw (kinds, t, pick, tests, u)
-    go ih true t true u = rw (kinds, t, pick, tests, u) (h.2 a b e p.0 u)
+    go ih true t true u = rw (kinds, t, pick, tests, u) (h.2 r.a r.b r.end p.0 u)
 
 -- where no record stands, no case is read
-pick-bad : {A : Type 0} (cs : List (Case A)) (k : ℕ) (w : Sort) → pick cs k (Bad w) ≡ fault w k
+pick-bad : {A : Type 0} (cs : List (Case A)) (k : ℕ) (w : Fault) → pick cs k (Err w) ≡ fault w.sort w.at
 unfolding pick
 pick-bad cs k w = refl
 
@@ -171,15 +172,15 @@ abbrev NeverFit : {A : Type 0} → List (Case A) → Type 0
 NeverFit [] = Unit
 NeverFit (c ∷ cs) = ((a b : ℕ) → c.fits a b ≡ false) × NeverFit cs
 
-never-picked : {A : Type 0} (cs : List (Case A)) → NeverFit cs → (k : ℕ) (r : Rec) → (w : Sort) × (pick cs k r ≡ fault w k)
+never-picked : {A : Type 0} (cs : List (Case A)) → NeverFit cs → (s : List ℕ) (k : ℕ) (r : Result Rec Fault) → r ≡ rec_at s k → (w : Sort) × (pick cs k r ≡ fault w k)
 unfolding pick
-never-picked [] h k (Bad w) = (w, refl)
-never-picked (c ∷ cs) h k (Bad w) = (w, refl)
-never-picked [] h k (Of kind a b e) = (Unexpected, refl)
-never-picked {A} (c ∷ cs) h k (Of kind a b e) = go (never-picked cs h.1 k (Of kind a b e)) (eqb kind c.kind) refl
+never-picked [] h s k (Err w) p = let e = err-known s k p refl in (w.sort, rw e)
+never-picked (c ∷ cs) h s k (Err w) p = let e = err-known s k p refl in (w.sort, rw e)
+never-picked [] h s k (Ok r) p = (Unexpected, refl)
+never-picked {A} (c ∷ cs) h s k (Ok r) p = go (never-picked cs h.1 s k (Ok r) p) (eqb r.kind c.kind) refl
   where
-    go : (w : Sort) × (pick cs k (Of kind a b e) ≡ fault w k) → (t : Bool) → eqb kind c.kind ≡ t → (w : Sort) × (pick (c ∷ cs) k (Of kind a b e) ≡ fault w k)
-    go ih true t = (Range, rw (t, pick, h.0 a b))
+    go : (w : Sort) × (pick cs k (Ok r) ≡ fault w k) → (t : Bool) → eqb r.kind c.kind ≡ t → (w : Sort) × (pick (c ∷ cs) k (Ok r) ≡ fault w k)
+    go ih true t = (Range, rw (t, pick, h.0 r.a r.b))
     go ih false t = (ih.0, rw (t, pick) ih.1)
 
 module _ (s : List ℕ) (names : Names) where
@@ -187,15 +188,16 @@ module _ (s : List ℕ) (names : Names) where
   pub terms-are-due : (room due k : ℕ) (ts : Terms) (e : ℕ) → read_terms s names room due k ≡ got ts e → count ts ≡ due
   terms-are-due room due k ts e q = (fair-got (terms-fair names s room due k) q).1.1
 
-  head-ends : (k : ℕ) → (w : Sort) × (read_head s names false k ≡ fault w k)
+  -- With no room left, the record of a due term is itself at fault,
+  pub head-ends : (k : ℕ) → (w : Sort) × (read_head s names false k ≡ fault w k)
   unfolding read_head
-  head-ends k = never-picked _ ((λ a b. refl), ((λ a b. refl), ((λ a b. refl), slots names.slots))) k (rec_at s k)
+  head-ends k = never-picked _ ((λ a b. refl), ((λ a b. refl), ((λ a b. refl), slots names.slots))) s k (rec_at s k) refl
     where
       slots : (o : Option ℕ) → NeverFit (slot_case o false)
       slots none = unfold slot_case in tt
       slots (some n) = unfold slot_case in ((λ a b. refl), tt)
 
-  -- With no room left, the record of a due term is itself at fault, and no record is passed over.
+  -- and no record is passed over.
   pub room-ends : (due k : ℕ) → (w : Sort) × (read_terms s names 0 (suc due) k ≡ fault w k)
   unfolding read_terms after
   room-ends due k = let h = head-ends k in (h.0, rw h.1)

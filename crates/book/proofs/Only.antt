@@ -3,8 +3,7 @@
 use mathlib.Core.Path.{◌≡◌, ap, sym, ◌∙◌}
 use mathlib.Core.List.{List}
 use Prim.Native.Nat.{ℕ}
-use Rattle.book.specs.declared.Verdict.{Verdict}
-use Rattle.book.specs.Answers.{told_of, check_book, check_question}
+use Rattle.book.specs.Answers.{Verdict, told_of, check_book, check_question}
 
 -- Two verdicts that meet the book check's contract are the same, and so is what they tell.
 pub book-only : (b : List ℕ) (v w : Verdict) → v ≡ check_book b → w ≡ check_book b → (v ≡ w) × (told_of v ≡ told_of w)

@@ -10,20 +10,17 @@ use lib.Dec.{ltb, leb, eqb}
 use native.Mathlib.Omega.{arith}
 use borrow.Author.Tests.{ltb-true, ltb-false, leb-true, leb-false, eqb-true, eqb-false}
 use Rattle.book.specs.Syntax.{done, Right, Tree, child, cons_of, con_arities}
-use Rattle.book.specs.declared.Sort.{Sort}
-use Rattle.book.specs.declared.Rec.{Rec}
-use Rattle.book.specs.declared.Rec.TheVariants.{Of, Bad}
-use Rattle.book.specs.declared.Step.{Step}
-use Rattle.book.specs.declared.Step.TheVariants.{Next, Fault}
-use Rattle.book.specs.Record.{Got, got, fault, body_of, body_byte, rec_at}
+use Rattle.std.specs.Prelude.{Result, Ok, Err}
+use Rattle.book.specs.declared.Fault.{Fault}
+use Rattle.book.specs.Record.{Rec, Got, got, fault, bad, body_of, body_byte, rec_at}
 use Rattle.book.specs.Reading.{after, make, Case, pick, Names, Head, slot_case, read_head, joined, read_terms, read_right, read_rights, read_trees, read_tree, under}
-use Rattle.book.specs.Steps.{step, moved, place_of}
+use Rattle.book.specs.Steps.{step}
 use Rattle.book.proofs.Records.{rec-end, rec-unknown, rec-cut, rec-of}
 use Rattle.book.proofs.Fronts.{pick-fit, pick-unfit, pick_next}
 
-unfoldable pub shift_rec : ℕ → Rec → Rec
-shift_rec j (Bad w) = Bad w
-shift_rec j (Of kind a b e) = Of kind a b (j + e)
+unfoldable pub shift_rec : ℕ → Result Rec Fault → Result Rec Fault
+shift_rec j (Err w) = bad w.sort (j + w.at)
+shift_rec j (Ok r) = Ok (record r { end = j + r.end })
 
 unfoldable pub shift : {A : Type 0} → ℕ → Got A → Got A
 shift j (got a e) = got a (j + e)
@@ -85,19 +82,19 @@ Same j [] (d ∷ ds) = ⊥
 Same j (c ∷ cs) [] = ⊥
 Same j (c ∷ cs) (d ∷ ds) = (c.kind ≡ d.kind) × ((a b : ℕ) → c.fits a b ≡ d.fits a b) × ((a b e : ℕ) → c.read a b (j + e) ≡ shift j (d.read a b e)) × Same j cs ds
 
-pick-shift : {A : Type 0} (j k : ℕ) (cs ds : List (Case A)) → Same j cs ds → (r : Rec) → pick cs (j + k) (shift_rec j r) ≡ shift j (pick ds k r)
+pick-shift : {A : Type 0} (j k : ℕ) (cs ds : List (Case A)) → Same j cs ds → (r : Result Rec Fault) → pick cs (j + k) (shift_rec j r) ≡ shift j (pick ds k r)
 unfolding Same pick shift_rec shift
-pick-shift j k [] [] h (Bad w) = refl
-pick-shift j k [] [] h (Of kind a b e) = refl
+pick-shift j k [] [] h (Err w) = refl
+pick-shift j k [] [] h (Ok r) = refl
 pick-shift j k [] (d ∷ ds) h r = absurd h
 pick-shift j k (c ∷ cs) [] h r = absurd h
-pick-shift j k (c ∷ cs) (d ∷ ds) h (Bad w) = refl
-pick-shift j k (c ∷ cs) (d ∷ ds) h (Of kind a b e) = go (eqb kind d.kind) refl (d.fits a b) refl (pick-shift j k cs ds h.3 (Of kind a b e))
+pick-shift j k (c ∷ cs) (d ∷ ds) h (Err w) = refl
+pick-shift j k (c ∷ cs) (d ∷ ds) h (Ok r) = go (eqb r.kind d.kind) refl (d.fits r.a r.b) refl (pick-shift j k cs ds h.3 (Ok r))
   where
-    go : (t : Bool) → eqb kind d.kind ≡ t → (u : Bool) → d.fits a b ≡ u → pick cs (j + k) (Of kind a b (j + e)) ≡ shift j (pick ds k (Of kind a b e)) → pick (c ∷ cs) (j + k) (Of kind a b (j + e)) ≡ shift j (pick (d ∷ ds) k (Of kind a b e))
-    go false t u' u ih = (let n = eqb-false kind d.kind t in pick_next (j + k) c cs refl (λ v. n (v ∙ h.0)) ∙ ih ∙ sym (ap (shift j) (pick_next k d ds refl n)))
-    go true t false u ih = (let m = eqb-true kind d.kind t in pick-unfit (j + k) c cs refl (m ∙ sym h.0) (h.1 a b ∙ u) ∙ sym (ap (shift j) (pick-unfit k d ds refl m u)))
-    go true t true u ih = (let m = eqb-true kind d.kind t in pick-fit (j + k) c cs refl (m ∙ sym h.0) (h.1 a b ∙ u) ∙ h.2 a b e ∙ sym (ap (shift j) (pick-fit k d ds refl m u)))
+    go : (t : Bool) → eqb r.kind d.kind ≡ t → (u : Bool) → d.fits r.a r.b ≡ u → pick cs (j + k) (Ok (record r { end = j + r.end })) ≡ shift j (pick ds k (Ok r)) → pick (c ∷ cs) (j + k) (Ok (record r { end = j + r.end })) ≡ shift j (pick (d ∷ ds) k (Ok r))
+    go false t u' u ih = (let n = eqb-false r.kind d.kind t in pick_next (j + k) c cs refl (λ v. n (v ∙ h.0)) ∙ ih ∙ sym (ap (shift j) (pick_next k d ds refl n)))
+    go true t false u ih = (let m = eqb-true r.kind d.kind t in pick-unfit (j + k) c cs refl (m ∙ sym h.0) (h.1 r.a r.b ∙ u) ∙ sym (ap (shift j) (pick-unfit k d ds refl m u)))
+    go true t true u ih = (let m = eqb-true r.kind d.kind t in pick-fit (j + k) c cs refl (m ∙ sym h.0) (h.1 r.a r.b ∙ u) ∙ h.2 r.a r.b r.end ∙ sym (ap (shift j) (pick-fit k d ds refl m u)))
 
 module _ (s : List ℕ) (j : ℕ) (l : j ≤ length s) where
   picked : {A : Type 0} (k : ℕ) (cs ds : List (Case A)) → Same j cs ds → pick cs (j + k) (rec_at s (j + k)) ≡ shift j (pick ds k (rec_at (drop j s) k))
@@ -154,15 +151,25 @@ module _ (s : List ℕ) (j : ℕ) (l : j ≤ length s) where
     ),
   ))
 
+-- a step in a part that starts at j, by the places of the whole
+unfoldable pub moved : ℕ → Result ℕ Fault → Result ℕ Fault
+moved j (Ok e) = Ok (j + e)
+moved j (Err w) = bad w.sort (j + w.at)
+
+-- the place that a step names
+unfoldable pub place_of : Result ℕ Fault → ℕ
+place_of (Ok e) = e
+place_of (Err w) = w.at
+
 pub step-shift : {A : Type 0} (j : ℕ) (y : Got A) → step (shift j y) ≡ moved j (step y)
 unfolding step shift moved
 step-shift j (got a e) = refl
 step-shift j (fault w p) = refl
 
-pub place-next : {x : Step} {e : ℕ} → x ≡ Next e → place_of x ≡ e
+pub place-next : {x : Result ℕ Fault} {e : ℕ} → x ≡ Ok e → place_of x ≡ e
 unfolding place_of
 place-next q = rw q
 
-pub place-fault : {x : Step} {w : Sort} {p : ℕ} → x ≡ Fault w p → place_of x ≡ p
+pub place-fault : {x : Result ℕ Fault} {w : Fault} → x ≡ Err w → place_of x ≡ w.at
 unfolding place_of
 place-fault q = rw q

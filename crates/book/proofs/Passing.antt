@@ -12,20 +12,20 @@ use native.Mathlib.Omega.{arith}
 use borrow.Author.Tests.{ltb-false, leb-true, le-ltb, lt-ltb, eq-eqb, ne_eqb, eqb-true, eqb-false}
 use Rattle.book.specs.declared.Sort.{Sort}
 use Rattle.book.specs.declared.Sort.TheVariants.{Range, End}
-use Rattle.book.specs.declared.Rec.{Rec}
-use Rattle.book.specs.declared.Rec.TheVariants.{Of, Bad}
-use Rattle.book.specs.Record.{Got, got, fault, body_of, rec_at, scan, funcs_from}
+use Rattle.std.specs.Prelude.{Result, Ok, Err}
+use Rattle.book.specs.declared.Fault.{Fault}
+use Rattle.book.specs.Record.{Rec, Got, got, fault, bad, body_of, rec_at, scan, funcs_from}
 use Rattle.book.specs.Reading.{after, make, Case, pick}
 
 -- where the bytes end there is no record
-pub rec-ends : (s : List ℕ) (k : ℕ) → length s ≤ k → rec_at s k ≡ Bad End
+pub rec-ends : (s : List ℕ) (k : ℕ) → length s ≤ k → rec_at s k ≡ bad End k
 unfolding rec_at
 rec-ends s k h = rw (le-ltb k (length s) h, rec_at)
 
 -- a record ends ahead, within the bytes
-abbrev Forward : List ℕ → ℕ → Rec → Type 0
-Forward s k (Bad w) = Unit
-Forward s k (Of kind a b e) = (k < e) × (e ≤ length s)
+abbrev Forward : List ℕ → ℕ → Result Rec Fault → Type 0
+Forward s k (Err w) = Unit
+Forward s k (Ok r) = (k < r.end) × (r.end ≤ length s)
 
 rec-body : (s : List ℕ) (k : ℕ) → ltb k (length s) ≡ true → (m : Option ℕ) → body_of (get_or s k 0) ≡ m → Forward s k (rec_at s k)
 unfolding rec_at
@@ -43,22 +43,22 @@ rec-forward s k = go (ltb k (length s)) refl
     go true t = rec-body s k t (body_of (get_or s k 0)) refl
     go false t = rw (rec-ends s k (ltb-false k (length s) t)) tt
 
-pub rec-goes : (s : List ℕ) (k : ℕ) {kind a b e : ℕ} → rec_at s k ≡ Of kind a b e → (k < e) × (e ≤ length s)
+pub rec-goes : (s : List ℕ) (k : ℕ) {r : Rec} → rec_at s k ≡ Ok r → (k < r.end) × (r.end ≤ length s)
 rec-goes s k q = subst (Forward s k) q (rec-forward s k)
 
 -- the arities of the FUNCs, record by record
 module _ (s : List ℕ) (n k : ℕ) where
-  pub funcs-end : {w : Sort} → rec_at s k ≡ Bad w → funcs_from s n k ≡ []
+  pub funcs-end : {w : Fault} → rec_at s k ≡ Err w → funcs_from s n k ≡ []
   unfolding funcs_from
   funcs-end q = elim n as (λ n. funcs_from s n k ≡ []) [ zero ↦ refl | suc n ↦ rw (q, funcs_from) ]
 
-  pub funcs-take : {kind a b e : ℕ} → rec_at s k ≡ Of kind a b e → kind ≡ 3 → funcs_from s (suc n) k ≡ a ∷ funcs_from s n e
+  pub funcs-take : {r : Rec} → rec_at s k ≡ Ok r → r.kind ≡ 3 → funcs_from s (suc n) k ≡ r.a ∷ funcs_from s n r.end
   unfolding funcs_from
-  funcs-take {kind} q u = rw (q, funcs_from, eq-eqb kind 3 u)
+  funcs-take {r} q u = rw (q, funcs_from, eq-eqb r.kind 3 u)
 
-  pub funcs-pass : {kind a b e : ℕ} → rec_at s k ≡ Of kind a b e → kind ≢ 3 → funcs_from s (suc n) k ≡ funcs_from s n e
+  pub funcs-pass : {r : Rec} → rec_at s k ≡ Ok r → r.kind ≢ 3 → funcs_from s (suc n) k ≡ funcs_from s n r.end
   unfolding funcs_from
-  funcs-pass {kind} q u = rw (q, funcs_from, ne_eqb kind 3 u)
+  funcs-pass {r} q u = rw (q, funcs_from, ne_eqb r.kind 3 u)
 
 -- The bound on the number of records never decides: as many as there are bytes left is enough.
 pub funcs-enough : (s : List ℕ) (n m k : ℕ) → length s ≤ n + k → length s ≤ m + k → funcs_from s n k ≡ funcs_from s m k
@@ -66,19 +66,19 @@ funcs-enough s zero m k h l = let q = rec-ends s k (omega arith) in funcs-end s 
 funcs-enough s (suc n) zero k h l = let q = rec-ends s k (omega arith) in funcs-end s (suc n) k q ∙ sym (funcs-end s zero k q)
 funcs-enough s (suc n) (suc m) k h l = go (funcs-enough s n m) (rec_at s k) refl
   where
-    kinds : ((k : ℕ) → length s ≤ n + k → length s ≤ m + k → funcs_from s n k ≡ funcs_from s m k) → {kind a b e : ℕ} → rec_at s k ≡ Of kind a b e → (t : Bool) → eqb kind 3 ≡ t → funcs_from s (suc n) k ≡ funcs_from s (suc m) k
-    kinds ih {kind} {a} {b} {e} q true t =
+    kinds : ((k : ℕ) → length s ≤ n + k → length s ≤ m + k → funcs_from s n k ≡ funcs_from s m k) → {r : Rec} → rec_at s k ≡ Ok r → (t : Bool) → eqb r.kind 3 ≡ t → funcs_from s (suc n) k ≡ funcs_from s (suc m) k
+    kinds ih {r} q true t =
         let p = rec-goes s k q in
-        let u = eqb-true kind 3 t in
-        funcs-take s n k q u ∙ ap (λ (l : List ℕ). a ∷ l) (ih e (omega arith) (omega arith)) ∙ sym (funcs-take s m k q u)
-    kinds ih {kind} {a} {b} {e} q false t =
+        let u = eqb-true r.kind 3 t in
+        funcs-take s n k q u ∙ ap (λ (l : List ℕ). r.a ∷ l) (ih r.end (omega arith) (omega arith)) ∙ sym (funcs-take s m k q u)
+    kinds ih {r} q false t =
         let p = rec-goes s k q in
-        let u = eqb-false kind 3 t in
-        funcs-pass s n k q u ∙ ih e (omega arith) (omega arith) ∙ sym (funcs-pass s m k q u)
+        let u = eqb-false r.kind 3 t in
+        funcs-pass s n k q u ∙ ih r.end (omega arith) (omega arith) ∙ sym (funcs-pass s m k q u)
 
-    go : ((k : ℕ) → length s ≤ n + k → length s ≤ m + k → funcs_from s n k ≡ funcs_from s m k) → (r : Rec) → rec_at s k ≡ r → funcs_from s (suc n) k ≡ funcs_from s (suc m) k
-    go ih (Bad w) q = funcs-end s (suc n) k q ∙ sym (funcs-end s (suc m) k q)
-    go ih (Of kind a b e) q = kinds ih q (eqb kind 3) refl
+    go : ((k : ℕ) → length s ≤ n + k → length s ≤ m + k → funcs_from s n k ≡ funcs_from s m k) → (r : Result Rec Fault) → rec_at s k ≡ r → funcs_from s (suc n) k ≡ funcs_from s (suc m) k
+    go ih (Err w) q = funcs-end s (suc n) k q ∙ sym (funcs-end s (suc m) k q)
+    go ih (Ok r) q = kinds ih q (eqb r.kind 3) refl
 
 -- the first pass, record by record
 module _ (s : List ℕ) (fits : ℕ → ℕ → ℕ → Bool) (n f k : ℕ) where
@@ -87,28 +87,28 @@ module _ (s : List ℕ) (fits : ℕ → ℕ → ℕ → Bool) (n f k : ℕ) wher
   scan-ends h = elim n as (λ n. scan s fits n f k ≡ got tt k) [ zero ↦ refl | suc n ↦ rw (le-ltb k (length s) h, scan) ]
 
   module _ (h : k < length s) where
-    pub scan-faults : {w : Sort} → rec_at s k ≡ Bad w → scan s fits (suc n) f k ≡ fault w k
+    pub scan-faults : {w : Fault} → rec_at s k ≡ Err w → scan s fits (suc n) f k ≡ fault w.sort w.at
     unfolding scan
     scan-faults q = rw (lt-ltb k (length s) h, scan, q)
 
-    module _ {kind a b e : ℕ} (q : rec_at s k ≡ Of kind a b e) where
-      pub scan-refuses : fits f kind a ≡ false → scan s fits (suc n) f k ≡ fault Range k
+    module _ {r : Rec} (q : rec_at s k ≡ Ok r) where
+      pub scan-refuses : fits f r.kind r.a ≡ false → scan s fits (suc n) f k ≡ fault Range k
       unfolding scan
       scan-refuses t = rw (lt-ltb k (length s) h, scan, q, t)
 
-      pub scan-takes : fits f kind a ≡ true → kind ≡ 3 → scan s fits (suc n) f k ≡ scan s fits n (suc f) e
+      pub scan-takes : fits f r.kind r.a ≡ true → r.kind ≡ 3 → scan s fits (suc n) f k ≡ scan s fits n (suc f) r.end
       unfolding scan
-      scan-takes t u = rw (lt-ltb k (length s) h, scan, q, t, eq-eqb kind 3 u)
+      scan-takes t u = rw (lt-ltb k (length s) h, scan, q, t, eq-eqb r.kind 3 u)
 
-      pub scan-passes : fits f kind a ≡ true → kind ≢ 3 → scan s fits (suc n) f k ≡ scan s fits n f e
+      pub scan-passes : fits f r.kind r.a ≡ true → r.kind ≢ 3 → scan s fits (suc n) f k ≡ scan s fits n f r.end
       unfolding scan
-      scan-passes t u = rw (lt-ltb k (length s) h, scan, q, t, ne_eqb kind 3 u)
+      scan-passes t u = rw (lt-ltb k (length s) h, scan, q, t, ne_eqb r.kind 3 u)
 
 -- the arities of the FUNCs from a place on
 abbrev pub arities : List ℕ → ℕ → List ℕ
 arities s k = funcs_from s (length s) k
 
-pub arities-take : (s : List ℕ) (k : ℕ) {kind a b e : ℕ} → rec_at s k ≡ Of kind a b e → kind ≡ 3 → arities s k ≡ a ∷ arities s e
+pub arities-take : (s : List ℕ) (k : ℕ) {r : Rec} → rec_at s k ≡ Ok r → r.kind ≡ 3 → arities s k ≡ r.a ∷ arities s r.end
 arities-take s k q u = funcs-enough s (length s) (suc (length s)) k (omega arith) (omega arith) ∙ funcs-take s (length s) k q u
 
 -- from one place to another: ahead, within the bytes, past no FUNC
@@ -123,7 +123,7 @@ past-none s k = record { on = omega arith; within = λ h. h; quiet = refl }
 past-both : {s : List ℕ} {k e f : ℕ} → Past s k e → Past s e f → Past s k f
 past-both p q = record { on = omega arith; within = λ h. q.within (p.within h); quiet = p.quiet ∙ q.quiet }
 
-past-record : (s : List ℕ) (k : ℕ) {kind a b e : ℕ} → rec_at s k ≡ Of kind a b e → kind ≢ 3 → Past s k e
+past-record : (s : List ℕ) (k : ℕ) {r : Rec} → rec_at s k ≡ Ok r → r.kind ≢ 3 → Past s k r.end
 past-record s k q u =
     let p = rec-goes s k q in
     record {
@@ -168,14 +168,14 @@ module _ {A : Type 0} (s : List ℕ) (Q : A → Type 0) where
   FairCases [] = Unit
   FairCases (c ∷ cases) = (c.kind ≢ 3) × ((a b e : ℕ) → c.fits a b ≡ true → Fair s e Q (c.read a b e)) × FairCases cases
 
-  pub fair-pick : (k : ℕ) (cases : List (Case A)) → FairCases cases → (r : Rec) → rec_at s k ≡ r → Fair s k Q (pick cases k r)
+  pub fair-pick : (k : ℕ) (cases : List (Case A)) → FairCases cases → (r : Result Rec Fault) → rec_at s k ≡ r → Fair s k Q (pick cases k r)
   unfolding pick
-  fair-pick k [] h (Bad w) q = lost
-  fair-pick k (c ∷ cases) h (Bad w) q = lost
-  fair-pick k [] h (Of kind a b e) q = lost
-  fair-pick k (c ∷ cases) h (Of kind a b e) q = go (fair-pick k cases h.2 (Of kind a b e) q) (eqb kind c.kind) refl (c.fits a b) refl
+  fair-pick k [] h (Err w) q = lost
+  fair-pick k (c ∷ cases) h (Err w) q = lost
+  fair-pick k [] h (Ok r) q = lost
+  fair-pick k (c ∷ cases) h (Ok r) q = go (fair-pick k cases h.2 (Ok r) q) (eqb r.kind c.kind) refl (c.fits r.a r.b) refl
     where
-      go : Fair s k Q (pick cases k (Of kind a b e)) → (t : Bool) → eqb kind c.kind ≡ t → (u : Bool) → c.fits a b ≡ u → Fair s k Q (pick (c ∷ cases) k (Of kind a b e))
-      go ih true t true u = rw (t, pick, u) (fair-later (past-record s k q (λ z. h.0 (sym (eqb-true kind c.kind t) ∙ z))) (h.1 a b e u))
+      go : Fair s k Q (pick cases k (Ok r)) → (t : Bool) → eqb r.kind c.kind ≡ t → (u : Bool) → c.fits r.a r.b ≡ u → Fair s k Q (pick (c ∷ cases) k (Ok r))
+      go ih true t true u = rw (t, pick, u) (fair-later (past-record s k q (λ z. h.0 (sym (eqb-true r.kind c.kind t) ∙ z))) (h.1 r.a r.b r.end u))
       go ih true t false u = rw (t, pick, u) lost
       go ih false t u v = rw (t, pick) ih

@@ -2,9 +2,8 @@
 -- Here, in order: the type and the arm of a constructor; the place of a function's tree.
 -- Not here: a type's first constructor and count (TypeIs in Steps), the arities (BookRead in Steps).
 -- Assumes nothing.
-use Rattle.std.specs.Prelude.{ℕ, zero, suc, ◌+◌, ◌-◌, ◌<◌, List, true, false, ◌≡◌, length, get_or, replicate, eqb}
+use Rattle.std.specs.Prelude.{ℕ, zero, suc, ◌+◌, ◌-◌, ◌<◌, List, true, false, ◌≡◌, length, get_or, replicate, eqb, Ok, Err}
 use Rattle.book.specs.Syntax.{norule, Func, cons_of, first_con, Book}
-use Rattle.book.specs.declared.Rec.TheVariants.{Of, Bad}
 use Rattle.book.specs.declared.Home.{Home}
 use Rattle.book.specs.Record.{got, rec_at, func_arities}
 use Rattle.book.specs.Reading.{read_tree, read_book}
@@ -21,8 +20,8 @@ unfoldable pub tree_from : List ℕ → ℕ → ℕ → ℕ → ℕ
 tree_from s zero k f = k
 tree_from s (suc n) k f =
     elim (rec_at s k) [
-      | Bad w ↦ k
-      | Of kind a b e ↦ elim (eqb kind 3) [ true ↦ elim (eqb f 0) [ true ↦ e | false ↦ tree_from s n e (f - 1) ] | false ↦ tree_from s n e f ]
+      | Err w ↦ k
+      | Ok r ↦ elim (eqb r.kind 3) [ true ↦ elim (eqb f 0) [ true ↦ r.end | false ↦ tree_from s n r.end (f - 1) ] | false ↦ tree_from s n r.end f ]
     ]
 
 -- function f of a book

@@ -2,13 +2,12 @@
 -- Here, in order: readers; cases of records; terms and RIGHTs; slots and trees; TYPEs and FUNCs; a book's bytes and a question's.
 -- Not here: the record at a place and the first pass (Record), what a book says (Syntax), the numbers of the answers (Answers).
 -- Assumes nothing.
-use Rattle.std.specs.Prelude.{ℕ, zero, suc, ◌+◌, List, [], ◌∷◌, ◌++◌, map, Bool, true, false, ◌&&◌, length, get_or, set, replicate, leb, ltb, eqb}
+use Rattle.std.specs.Prelude.{ℕ, zero, suc, ◌+◌, List, [], ◌∷◌, ◌++◌, map, Bool, true, false, ◌&&◌, length, get_or, set, replicate, leb, ltb, eqb, Result, Ok, Err}
 use Rattle.std.proofs.Math.Option.{Option, none, some}
 use Rattle.book.specs.Syntax.{Symbol, con, fun, Term, Terms, app, slot, fresh, done, arg, Right, Tree, Trees, split, rule, norule, stop, child, Func, arity, Book, con_arities, cons_of}
 use Rattle.book.specs.declared.Sort.TheVariants.{Range, Unexpected, End}
-use Rattle.book.specs.declared.Rec.{Rec}
-use Rattle.book.specs.declared.Rec.TheVariants.{Of, Bad}
-use Rattle.book.specs.Record.{Got, got, fault, rec_at, scan, book_fits, any_fits, func_arities}
+use Rattle.book.specs.declared.Fault.{Fault}
+use Rattle.book.specs.Record.{Got, got, fault, Rec, rec_at, scan, book_fits, any_fits, func_arities}
 
 -- reading a thing from a place on
 abbrev pub Reader : Type 0 → Type 0
@@ -37,13 +36,13 @@ module _ {A : Type 0} where
   case kind fits read = record { kind = kind; fits = fits; read = read }
 
   -- the record at k must be of one of these kinds, else it is unexpected; and its body must fit, else it is out of range
-  unfoldable pub pick : List (Case A) → ℕ → Rec → Got A
-  pick cases k (Bad w) = fault w k
-  pick [] k (Of kind a b e) = fault Unexpected k
-  pick (c ∷ cases) k (Of kind a b e) =
-      elim (eqb kind c.kind) [
-        | true ↦ elim (c.fits a b) [ true ↦ c.read a b e | false ↦ fault Range k ]
-        | false ↦ pick cases k (Of kind a b e)
+  unfoldable pub pick : List (Case A) → ℕ → Result Rec Fault → Got A
+  pick cases k (Err f) = fault f.sort f.at
+  pick [] k (Ok r) = fault Unexpected k
+  pick (c ∷ cases) k (Ok r) =
+      elim (eqb r.kind c.kind) [
+        | true ↦ elim (c.fits r.a r.b) [ true ↦ c.read r.a r.b r.end | false ↦ fault Range k ]
+        | false ↦ pick cases k (Ok r)
       ]
 
   -- the next record is of one of these kinds
@@ -165,9 +164,9 @@ read_cons s before (suc n) k = one_of s (
     ∷ []) k
 
 -- the record is of this kind
-abbrev pub is_kind : ℕ → Rec → Bool
-is_kind k (Bad w) = false
-is_kind k (Of kind a b e) = eqb kind k
+abbrev pub is_kind : ℕ → Result Rec Fault → Bool
+is_kind k (Err f) = false
+is_kind k (Ok r) = eqb r.kind k
 
 -- The TYPEs, with the number of those before and of the constructors before. The second argument bounds their number: 65 is enough, since the 65th is at fault.
 unfoldable pub read_types : List ℕ → ℕ → ℕ → ℕ → Reader (List (List ℕ))

@@ -1,18 +1,28 @@
 -- From bytes to records: the record at a place, and the first pass over all of them.
--- Here, in order: what reading gives; the length of each kind's body; the record at a place; the first pass; the functions' arities.
--- Not here: which record is expected where (Reading). The sorts of fault and the form of a record are declared in src/lib.rt (Sort, Rec).
+-- Here, in order: what reading gives; a record; the length of each kind's body; the record at a place; the first pass; the functions' arities.
+-- Not here: which record is expected where (Reading). The form of a fault is declared in src/lib.rt (Sort, Fault).
 -- Assumes nothing.
-use Rattle.std.specs.Prelude.{ℕ, zero, suc, ◌+◌, List, [], ◌∷◌, Bool, true, false, ◌&&◌, length, get_or, leb, ltb, eqb}
+use Rattle.std.specs.Prelude.{ℕ, zero, suc, ◌+◌, List, [], ◌∷◌, Bool, true, false, ◌&&◌, length, get_or, leb, ltb, eqb, Result, Ok, Err}
 use Rattle.std.proofs.Math.Option.{Option, none, some}
 use Rattle.book.specs.declared.Sort.{Sort}
 use Rattle.book.specs.declared.Sort.TheVariants.{Unknown, Cut, Range, End}
-use Rattle.book.specs.declared.Rec.{Rec}
-use Rattle.book.specs.declared.Rec.TheVariants.{Of, Bad}
+use Rattle.book.specs.declared.Fault.{Fault}
 
 -- what reading at a place gives: a thing and the place after it, or the first fault's sort and place
 pub data Got (A : Type 0) : Type 0 where
   got : A → ℕ → Got A
   fault : Sort → ℕ → Got A
+
+-- a record: its kind, its body's two bytes (0 for one that it lacks), and the place after it
+pub record Rec : Type 0 where
+  pub kind : ℕ
+  pub a : ℕ
+  pub b : ℕ
+  pub end : ℕ
+
+-- a fault of this sort, at this place
+abbrev pub bad : {A : Type 0} → Sort → ℕ → Result A Fault
+bad w k = Err (record { sort = w; at = k })
 
 -- the length of each kind's body, from kind 0 on; `none`: no such kind
 abbrev pub bodies : List (Option ℕ)
@@ -27,15 +37,15 @@ unfoldable pub body_byte : List ℕ → ℕ → ℕ → ℕ → ℕ
 body_byte s k m i = elim (ltb i m) [ true ↦ get_or s (k + i) 0 | false ↦ 0 ]
 
 -- the record at place k: its kind, its body's bytes and the place after it; or what is wrong there: no byte is left, an unknown kind, a body cut short
-unfoldable pub rec_at : List ℕ → ℕ → Rec
+unfoldable pub rec_at : List ℕ → ℕ → Result Rec Fault
 rec_at s k =
     elim (ltb k (length s)) [
-      | false ↦ Bad End
+      | false ↦ bad End k
       | true ↦ elim (body_of (get_or s k 0)) [
-        | none ↦ Bad Unknown
+        | none ↦ bad Unknown k
         | some m ↦ elim (leb (k + 1 + m) (length s)) [
-          | false ↦ Bad Cut
-          | true ↦ Of (get_or s k 0) (body_byte s (k + 1) m 0) (body_byte s (k + 1) m 1) (k + 1 + m)
+          | false ↦ bad Cut k
+          | true ↦ Ok (record { kind = get_or s k 0; a = body_byte s (k + 1) m 0; b = body_byte s (k + 1) m 1; end = k + 1 + m })
         ]
       ]
     ]
@@ -48,10 +58,10 @@ scan s fits (suc n) funcs k =
     elim (ltb k (length s)) [
       | false ↦ got tt k
       | true ↦ elim (rec_at s k) [
-        | Bad w ↦ fault w k
-        | Of kind a b e ↦ elim (fits funcs kind a) [
+        | Err f ↦ fault f.sort f.at
+        | Ok r ↦ elim (fits funcs r.kind r.a) [
           | false ↦ fault Range k
-          | true ↦ elim (eqb kind 3) [ true ↦ scan s fits n (suc funcs) e | false ↦ scan s fits n funcs e ]
+          | true ↦ elim (eqb r.kind 3) [ true ↦ scan s fits n (suc funcs) r.end | false ↦ scan s fits n funcs r.end ]
         ]
       ]
     ]
@@ -69,8 +79,8 @@ unfoldable pub funcs_from : List ℕ → ℕ → ℕ → List ℕ
 funcs_from s zero k = []
 funcs_from s (suc n) k =
     elim (rec_at s k) [
-      | Bad w ↦ []
-      | Of kind a b e ↦ elim (eqb kind 3) [ true ↦ a ∷ funcs_from s n e | false ↦ funcs_from s n e ]
+      | Err f ↦ []
+      | Ok r ↦ elim (eqb r.kind 3) [ true ↦ r.a ∷ funcs_from s n r.end | false ↦ funcs_from s n r.end ]
     ]
 
 -- the arities of the FUNCs of the first pass, by function number, misplaced ones too

@@ -6,11 +6,9 @@ use Rattle.std.specs.Prelude.{ℕ, zero, suc, List, [], ◌∷◌, ◌++◌, map
 use Rattle.book.specs.Syntax.{arity}
 use Rattle.book.specs.declared.Sort.{Sort}
 use Rattle.book.specs.declared.Sort.TheVariants.{Unknown, Cut, Range, Unexpected, End}
-use Rattle.book.specs.declared.Verdict.{Verdict}
-use Rattle.book.specs.declared.Verdict.TheVariants.{Accepted, BookFault, QuestionFault}
 use Rattle.book.specs.Record.{body_of, body_byte, rec_at, scan, book_fits, any_fits, funcs_from, func_arities}
 use Rattle.book.specs.Reading.{after, make, pick, slot_case, read_head, first_terms, others_of, joined, read_terms, the_one, read_right, read_rights, all_fit, splits, under, read_trees, read_tree, read_cons, read_types, read_funcs, read_book, last, read_alone, read_question}
-use Rattle.book.specs.Answers.{Told, told, zeros, told_of, on_question, on_both, check_question}
+use Rattle.book.specs.Answers.{Told, told, zeros, Verdict, accepted, book_fault, question_fault, told_of, on_question, on_both, check_question}
 
 -- a verdict with what it tells
 pub data Seen : Type 0 where
@@ -24,15 +22,15 @@ pub record Row : Type 0 where
 
 -- both are accepted
 abbrev fine : List ℕ → List ℕ → Row
-fine b q = record { book = b; question = q; gives = seen Accepted (told 0 0 zeros) }
+fine b q = record { book = b; question = q; gives = seen accepted (told 0 0 zeros) }
 
 -- the book is at fault, whatever the question
 abbrev book_at : List ℕ → Sort → ℕ → Row
-book_at b w p = record { book = b; question = []; gives = seen (BookFault w p) (told 11 p zeros) }
+book_at b w p = record { book = b; question = []; gives = seen (book_fault w p) (told 11 p zeros) }
 
 -- the question is at fault
 abbrev question_at : List ℕ → List ℕ → Sort → ℕ → Row
-question_at b q w p = record { book = b; question = q; gives = seen (QuestionFault w p) (told 12 p zeros) }
+question_at b q w p = record { book = b; question = q; gives = seen (question_fault w p) (told 12 p zeros) }
 
 -- a list n times over
 abbrev times : ℕ → List ℕ → List ℕ

@@ -3,11 +3,11 @@
 // Not here: the functions (shelf).
 ghost use Rattle.std.specs.Prelude.{◌≡◌, ◌<◌, ◌≤◌, length};
 ghost use Rattle.book.specs.Syntax.{con_arities};
-ghost use Rattle.book.specs.Steps.{types_of, Front, TypeIs, ConsIs, type_fault, TypesIs};
+ghost use Rattle.book.specs.Steps.{types_of, Front, TypeIs, ConsIs, TypesIs};
 ghost use Rattle.book.specs.Facts.{HomeIs};
 
-use crate::record::{bad, rec_at, wide};
-use crate::{ConNo, Home, Rec, Sort, Step, TypeInfo, TypeNo, Types};
+use crate::record::rec_at;
+use crate::{ConNo, Fault, Home, Kind, Sort, TypeInfo, TypeNo, Types};
 
 // A type, found by walking over those before it.
 pub fn type_at(s: &[u8], t: TypeNo) -> TypeInfo
@@ -16,14 +16,12 @@ pub fn type_at(s: &[u8], t: TypeNo) -> TypeInfo
 {
     let mut at = 0;
     let mut first = 0;
-    let mut left = wide(t.0);
-    while 0 < left {
-        let n = wide(s[at + 1]);
-        at = at + 2 * n + 2;
+    for _ in 0..t.0 {
+        let n = s[at + 1] as usize;
+        at += 2 * n + 2;
         first += n;
-        left -= 1;
     }
-    let count = wide(s[at + 1]);
+    let count = s[at + 1] as usize;
     TypeInfo { at, first, count }
 }
 
@@ -34,59 +32,48 @@ pub fn con_home(s: &[u8], c: ConNo) -> Home
 {
     let mut at = 0;
     let mut ty = 0;
-    let mut left = wide(c.0);
-    let mut n = wide(s[1]);
-    while n <= left {
-        left -= n;
-        at = at + 2 * n + 2;
+    let mut arm = c.0 as usize;
+    let mut n = s[1] as usize;
+    while n <= arm {
+        arm -= n;
+        at += 2 * n + 2;
         ty += 1;
-        n = wide(s[at + 1]);
+        n = s[at + 1] as usize;
     }
-    Home { ty, arm: left }
+    Home { ty, arm }
 }
 
 // n CONS records, `before` standing before them; their arities are put into the table.
-pub fn read_cons(s: &[u8], table: &mut [u8], before: usize, n: usize, from: usize) -> Step
+pub fn read_cons(
+    s: &[u8],
+    table: &mut [u8],
+    before: usize,
+    n: usize,
+    from: usize,
+) -> Result<usize, Fault>
     requires { (length table.old ≡ 256) × (before ≤ 256) }
     ensures { ConsIs s.now before n from table.old table.new result }
 {
     let mut at = from;
-    let mut had = before;
-    let mut left = n;
-    while 0 < left {
-        let r = rec_at(s, at);
-        let Rec::Of(kind, a, _, e) = r else {
-            return bad(r, at);
-        };
-        if kind != 2 {
-            return Step::Fault(Sort::Unexpected, at);
+    for i in 0..n {
+        let r = rec_at(s, at)?;
+        if r.kind != Kind::Cons {
+            return Err(Fault::new(Sort::Unexpected, at));
         }
-        if 256 <= had {
-            return Step::Fault(Sort::Range, at);
+        if 256 <= before + i {
+            return Err(Fault::new(Sort::Range, at));
         }
-        if 8 < a {
-            return Step::Fault(Sort::Range, at);
+        if 8 < r.a {
+            return Err(Fault::new(Sort::Range, at));
         }
-        table[had] = a;
-        at = e;
-        had += 1;
-        left -= 1;
+        table[before + i] = r.a;
+        at = r.end;
     }
-    Step::Next(at)
-}
-
-// The fault of a TYPE's CONS records.
-fn type_fault(s: Step) -> Types
-    ensures { result ≡ type_fault s }
-{
-    match s {
-        Step::Fault(w, p) => Types::Fault(w, p),
-        Step::Next(p) => Types::Fault(Sort::End, p),
-    }
+    Ok(at)
 }
 
 // The TYPEs at a book's start; the constructors' arities are put into the table.
-pub fn read_types(s: &[u8], table: &mut [u8]) -> Types
+pub fn read_types(s: &[u8], table: &mut [u8]) -> Result<Types, Fault>
     requires { length table.old ≡ 256 }
     ensures { TypesIs s.now table.new result }
 {
@@ -94,28 +81,31 @@ pub fn read_types(s: &[u8], table: &mut [u8]) -> Types
     let mut types: usize = 0;
     let mut cons: usize = 0;
     loop {
-        let r = rec_at(s, at);
-        let Rec::Of(kind, a, _, e) = r else {
-            return Types::Are(types, cons, at);
+        let Ok(r) = rec_at(s, at) else {
+            return Ok(Types {
+                types,
+                cons,
+                end: at,
+            });
         };
-        if kind != 1 {
-            return Types::Are(types, cons, at);
+        if r.kind != Kind::Type {
+            return Ok(Types {
+                types,
+                cons,
+                end: at,
+            });
         }
         if 64 <= types {
-            return Types::Fault(Sort::Range, at);
+            return Err(Fault::new(Sort::Range, at));
         }
-        if a == 0 {
-            return Types::Fault(Sort::Range, at);
+        if r.a == 0 {
+            return Err(Fault::new(Sort::Range, at));
         }
-        if 32 < a {
-            return Types::Fault(Sort::Range, at);
+        if 32 < r.a {
+            return Err(Fault::new(Sort::Range, at));
         }
-        let n = wide(a);
-        let c = read_cons(s, table, cons, n, e);
-        let Step::Next(p) = c else {
-            return type_fault(c);
-        };
-        at = p;
+        let n = r.a as usize;
+        at = read_cons(s, table, cons, n, r.end)?;
         types += 1;
         cons += n;
     }

@@ -1,7 +1,10 @@
-// The checker of books and questions: what is read, left to right, or the first fault's sort and place.
+// The checker of books and questions: what is read, left to right, or the first fault.
 // Here: the forms that the modules share. The modules, lowest first: record, term, front, tree, shelf, judge.
 // Not here: what a book says and how its bytes are read (specs/Syntax, Record, Reading), what a check answers (specs/Answers).
 #![tactic(auto)]
+
+ghost use Rattle.std.specs.Prelude.{◌≡◌};
+ghost use Rattle.book.specs.Kinds.{kind_at};
 
 mod front;
 mod judge;
@@ -16,26 +19,49 @@ pub use record::{fun_tree, rec_at};
 pub use shelf::read_book;
 pub use term::{con_arity, fun_arity, read_term};
 
-// What is wrong with a record.
-#[derive(Clone, Copy)]
+// What is wrong with a record, by the numbers that the programs print.
+#[derive(Clone, Copy, PartialEq, Eq)]
 pub enum Sort {
-    Unknown,
-    Cut,
-    Range,
-    Unexpected,
-    End,
+    Unknown = 1,
+    Cut = 2,
+    Range = 3,
+    Unexpected = 4,
+    End = 5,
+}
+
+// The first fault: its sort and its place.
+#[derive(Clone, Copy, PartialEq, Eq)]
+pub struct Fault {
+    pub sort: Sort,
+    pub at: usize,
+}
+
+impl Fault {
+    // A fault of a sort, at a place.
+    pub(crate) fn new(sort: Sort, at: usize) -> Fault
+        ensures { result ≡ record { sort = sort; at = at } }
+    {
+        Fault { sort, at }
+    }
+}
+
+// Why a check refuses: which of the two is at fault.
+#[derive(Clone, Copy, PartialEq, Eq)]
+pub enum Refusal {
+    Book(Fault),
+    Question(Fault),
 }
 
 // A constructor's number.
-#[derive(Clone, Copy)]
+#[derive(Clone, Copy, PartialEq, Eq)]
 pub struct ConNo(pub u8);
 
 // A function's number.
-#[derive(Clone, Copy)]
+#[derive(Clone, Copy, PartialEq, Eq)]
 pub struct FunNo(pub u8);
 
 // A type's number.
-#[derive(Clone, Copy)]
+#[derive(Clone, Copy, PartialEq, Eq)]
 pub struct TypeNo(pub u8);
 
 // A type: the place of its record, the number of its first constructor, and how many it has.
@@ -53,80 +79,79 @@ pub struct Home {
     pub arm: usize,
 }
 
-// Whether a slot can be split by a type: the place of the type's first CONS record, and how many it has.
-#[derive(Clone, Copy)]
-pub enum Split {
-    Can(usize, usize),
-    Not,
+// A kind of record, by its number in a book or a question.
+#[derive(Clone, Copy, PartialEq, Eq)]
+pub enum Kind {
+    Type = 1,
+    Cons = 2,
+    Func = 3,
+    Split = 4,
+    Rule = 5,
+    Right = 6,
+    Con = 7,
+    Call = 8,
+    Slot = 9,
+    Fresh = 10,
+    None = 11,
 }
 
-// The record at a place: kind, body (0 for a byte that it lacks), the place after it.
-#[derive(Clone, Copy)]
-pub enum Rec {
-    Of(u8, u8, u8, usize),
-    Bad(Sort),
+impl Kind {
+    // The kind that a byte says, if it is one.
+    pub(crate) fn of(byte: u8) -> Option<Kind>
+        ensures { result ≡ kind_at byte }
+    {
+        match byte {
+            1 => Some(Kind::Type),
+            2 => Some(Kind::Cons),
+            3 => Some(Kind::Func),
+            4 => Some(Kind::Split),
+            5 => Some(Kind::Rule),
+            6 => Some(Kind::Right),
+            7 => Some(Kind::Con),
+            8 => Some(Kind::Call),
+            9 => Some(Kind::Slot),
+            10 => Some(Kind::Fresh),
+            11 => Some(Kind::None),
+            _ => None,
+        }
+    }
 }
 
-// The place after what was read.
+// A record: kind, body (0 for a byte that it lacks), the place after it.
 #[derive(Clone, Copy)]
-pub enum Step {
-    Next(usize),
-    Fault(Sort, usize),
-}
-
-// The first pass over a book: the number of its FUNCs.
-#[derive(Clone, Copy)]
-pub enum Pass {
-    Funcs(usize),
-    Fault(Sort, usize),
+pub struct Rec {
+    pub kind: Kind,
+    pub a: u8,
+    pub b: u8,
+    pub end: usize,
 }
 
 // A record of a term: how many terms follow it, and the place after it.
 #[derive(Clone, Copy)]
-pub enum Args {
-    Are(u8, usize),
-    Fault(Sort, usize),
-}
-
-// An arity that is looked up.
-#[derive(Clone, Copy)]
-pub enum Found {
-    At(u8),
-    Nothing,
+pub struct Args {
+    pub count: u8,
+    pub end: usize,
 }
 
 // The types read: how many, how many constructors they have, and the place after them.
 #[derive(Clone, Copy)]
-pub enum Types {
-    Are(usize, usize, usize),
-    Fault(Sort, usize),
+pub struct Types {
+    pub types: usize,
+    pub cons: usize,
+    pub end: usize,
 }
 
 // A book that was read: the numbers of its types, constructors and functions.
 #[derive(Clone, Copy)]
-pub enum Read {
-    Book(usize, usize, usize),
-    Fault(Sort, usize),
+pub struct Sizes {
+    pub types: usize,
+    pub cons: usize,
+    pub funcs: usize,
 }
 
-// What a check says: accepted, or which of the two is at fault, the sort and the place.
-#[derive(Clone, Copy)]
-pub enum Verdict {
-    Accepted,
-    BookFault(Sort, usize),
-    QuestionFault(Sort, usize),
-}
-
-// The slots of a pattern: the length of each position, 8 for a slot that is split.
+// The slots of a pattern: the length of each position, 8 for a slot that is split. (An array and a length: the memory is fixed.)
 #[derive(Clone, Copy)]
 pub struct Slots {
     pub n: usize,
     pub depth: [u8; 64],
-}
-
-// What a term's SLOT can name: a pattern's slots; in a question there is no pattern.
-#[derive(Clone, Copy)]
-pub enum Pattern {
-    Has(usize),
-    Absent,
 }

@@ -1,116 +1,57 @@
 // Terms and RIGHTs, read by a count of terms still due, without recursion.
 // Here, in order: arities looked up; one record of a term; a term; a RIGHT; the RIGHTs of a RULE.
 // Not here: trees (tree), where the arities come from (record, front).
-ghost use Rattle.std.specs.Prelude.{◌≡◌, ltb};
-ghost use Rattle.std.proofs.Math.Option.{some};
+ghost use Rattle.std.specs.Prelude.{◌≡◌, Some, ltb, slice_get};
 ghost use Rattle.book.specs.Reading.{read_head, read_terms, read_right, read_rights};
-ghost use Rattle.book.specs.Steps.{step, args_of, args_fault, named_args, within, slot_args, slots_of, lookup, names};
+ghost use Rattle.book.specs.Steps.{step, args_of, none_if_below, slots_of, names};
 
-use crate::record::{bad, rec_at, wide};
-use crate::{Args, ConNo, Found, FunNo, Pattern, Rec, Sort, Step};
+use crate::record::rec_at;
+use crate::{Args, ConNo, Fault, FunNo, Kind, Sort};
 
 // The arity of a constructor, from the arities of all of them.
-pub fn con_arity(cons: &[u8], c: ConNo) -> Found
-    ensures { result ≡ lookup cons.now c.0 }
+pub fn con_arity(cons: &[u8], c: ConNo) -> Option<u8>
+    ensures { result ≡ slice_get cons.now c.0 }
 {
-    let i = wide(c.0);
-    if i < cons.len() {
-        return Found::At(cons[i]);
-    }
-    Found::Nothing
+    cons.get(c.0 as usize).copied()
 }
 
 // The arity of a function, from the arities of all of them.
-pub fn fun_arity(funcs: &[u8], f: FunNo) -> Found
-    ensures { result ≡ lookup funcs.now f.0 }
+pub fn fun_arity(funcs: &[u8], f: FunNo) -> Option<u8>
+    ensures { result ≡ slice_get funcs.now f.0 }
 {
-    let i = wide(f.0);
-    if i < funcs.len() {
-        return Found::At(funcs[i]);
-    }
-    Found::Nothing
+    funcs.get(f.0 as usize).copied()
 }
 
-// The record of a symbol whose arity was looked up.
-fn named(f: Found, at: usize, e: usize) -> Args
-    ensures { result ≡ named_args f at e }
+// No terms follow the record of a number, if that is below n.
+fn alone(a: u8, n: usize) -> Option<u8>
+    ensures { result ≡ none_if_below a n }
 {
-    match f {
-        Found::At(n) => Args::Are(n, e),
-        Found::Nothing => Args::Fault(Sort::Range, at),
-    }
+    if (a as usize) < n { Some(0) } else { None }
 }
 
-// The record of a number that is to be below n.
-fn below(a: u8, n: usize, at: usize, e: usize) -> Args
-    ensures { result ≡ within a n at e }
-{
-    if wide(a) < n {
-        Args::Are(0, e)
-    } else {
-        Args::Fault(Sort::Range, at)
-    }
-}
-
-// A SLOT's record: of the pattern, if there is one.
-fn slot_at(pattern: Pattern, a: u8, room: usize, at: usize, e: usize) -> Args
-    ensures { result ≡ slot_args (slots_of pattern) (ltb 0 room) a at e }
-{
-    match pattern {
-        Pattern::Absent => Args::Fault(Sort::Unexpected, at),
-        Pattern::Has(n) => {
-            if room == 0 {
-                return Args::Fault(Sort::Range, at);
-            }
-            below(a, n, at, e)
-        }
-    }
-}
-
-// One record of a term, of which `room` more may be read.
+// One record of a term, of which `room` more may be read. A SLOT is expected only under a pattern, which has so many.
 pub fn head_at(
     s: &[u8],
     cons: &[u8],
     funcs: &[u8],
-    pattern: Pattern,
+    pattern: Option<usize>,
     vars: usize,
     room: usize,
     at: usize,
-) -> Args
+) -> Result<Args, Fault>
     ensures { result ≡ args_of (read_head s.now (names cons.now funcs.now pattern vars) (ltb 0 room) at) }
 {
-    let r = rec_at(s, at);
-    match r {
-        Rec::Bad(w) => Args::Fault(w, at),
-        Rec::Of(kind, a, _, e) => {
-            if kind < 7 {
-                return Args::Fault(Sort::Unexpected, at);
-            }
-            if 10 < kind {
-                return Args::Fault(Sort::Unexpected, at);
-            }
-            if kind == 9 {
-                return slot_at(pattern, a, room, at, e);
-            }
-            if room == 0 {
-                return Args::Fault(Sort::Range, at);
-            }
-            match kind {
-                7 => named(con_arity(cons, ConNo(a)), at, e),
-                8 => named(fun_arity(funcs, FunNo(a)), at, e),
-                _ => below(a, vars, at, e),
-            }
-        }
-    }
-}
-
-// The fault of a term's record.
-fn head_fault(h: Args) -> Step
-    ensures { result ≡ args_fault h }
-{
-    match h {
-        Args::Fault(w, p) => Step::Fault(w, p),
-        Args::Are(_, e) => Step::Next(e),
+    let r = rec_at(s, at)?;
+    let known = match (r.kind, pattern) {
+        (Kind::Con, _) => con_arity(cons, ConNo(r.a)),
+        (Kind::Call, _) => fun_arity(funcs, FunNo(r.a)),
+        (Kind::Slot, Some(slots)) => alone(r.a, slots),
+        (Kind::Fresh, _) => alone(r.a, vars),
+        _ => return Err(Fault::new(Sort::Unexpected, at)),
+    };
+    match known {
+        Some(count) if 0 < room => Ok(Args { count, end: r.end }),
+        _ => Err(Fault::new(Sort::Range, at)),
     }
 }
 
@@ -119,57 +60,58 @@ pub fn read_term(
     s: &[u8],
     cons: &[u8],
     funcs: &[u8],
-    pattern: Pattern,
+    pattern: Option<usize>,
     vars: usize,
     from: usize,
-) -> Step
+) -> Result<usize, Fault>
     ensures { result ≡ step (read_terms s.now (names cons.now funcs.now pattern vars) 255 1 from) }
 {
     let mut at = from;
     let mut due: usize = 1;
     let mut room: usize = 255;
     while 0 < due {
-        let h = head_at(s, cons, funcs, pattern, vars, room, at);
-        let Args::Are(n, e) = h else {
-            return head_fault(h);
-        };
-        due = due - 1 + wide(n);
+        let h = head_at(s, cons, funcs, pattern, vars, room, at)?;
+        due = due - 1 + h.count as usize;
         room -= 1;
-        at = e;
+        at = h.end;
     }
-    Step::Next(at)
+    Ok(at)
 }
 
 // A RIGHT and its term.
-pub fn read_right(s: &[u8], cons: &[u8], funcs: &[u8], pattern: Pattern, at: usize) -> Step
+pub fn read_right(
+    s: &[u8],
+    cons: &[u8],
+    funcs: &[u8],
+    pattern: Option<usize>,
+    at: usize,
+) -> Result<usize, Fault>
     ensures { result ≡ step (read_right s.now cons.now funcs.now (slots_of pattern) at) }
 {
-    let r = rec_at(s, at);
-    let Rec::Of(kind, a, _, e) = r else {
-        return bad(r, at);
-    };
-    if kind != 6 {
-        return Step::Fault(Sort::Unexpected, at);
+    let r = rec_at(s, at)?;
+    if r.kind != Kind::Right {
+        return Err(Fault::new(Sort::Unexpected, at));
     }
-    if 8 < a {
-        return Step::Fault(Sort::Range, at);
+    if 8 < r.a {
+        return Err(Fault::new(Sort::Range, at));
     }
-    read_term(s, cons, funcs, pattern, wide(a), e)
+    read_term(s, cons, funcs, pattern, r.a as usize, r.end)
 }
 
 // As many RIGHTs as a RULE says.
-pub fn read_rights(s: &[u8], cons: &[u8], funcs: &[u8], slots: usize, n: usize, from: usize) -> Step
-    ensures { result ≡ step (read_rights (read_right s.now cons.now funcs.now (some slots)) n from) }
+pub fn read_rights(
+    s: &[u8],
+    cons: &[u8],
+    funcs: &[u8],
+    slots: usize,
+    n: usize,
+    from: usize,
+) -> Result<usize, Fault>
+    ensures { result ≡ step (read_rights (read_right s.now cons.now funcs.now (slots_of (Some slots))) n from) }
 {
     let mut at = from;
-    let mut left = n;
-    while 0 < left {
-        let one = read_right(s, cons, funcs, Pattern::Has(slots), at);
-        let Step::Next(e) = one else {
-            return one;
-        };
-        at = e;
-        left -= 1;
+    for _ in 0..n {
+        at = read_right(s, cons, funcs, Some(slots), at)?;
     }
-    Step::Next(at)
+    Ok(at)
 }

@@ -6,17 +6,16 @@ ghost use Rattle.book.specs.Reading.{all_fit};
 ghost use Rattle.book.specs.Steps.{types_of, Front, Lore, cons_from, live, Kept, CanSplit, SplitIs, IsUnder, AllFit, TreeIs, TreesIs};
 
 use crate::front::type_at;
-use crate::record::{bad, rec_at, wide};
+use crate::record::rec_at;
 use crate::term::read_rights;
-use crate::{Rec, Slots, Sort, Split, Step, TypeNo};
+use crate::{Fault, Kind, Slots, Sort, TypeInfo, TypeNo};
 
 // A function's arguments, the slots at its tree's root.
 pub fn arguments(n: usize) -> Slots
     requires { n ≤ 8 }
     ensures { Kept result × (live result ≡ replicate n 1) }
 {
-    let depth = [1u8; 64];
-    Slots { n, depth }
+    Slots { n, depth: [1; 64] }
 }
 
 // The slots of the child for a constructor of arity a.
@@ -28,11 +27,7 @@ pub fn under(slots: Slots, slot: usize, a: usize) -> Slots
     let mut depth = slots.depth;
     let d = depth[slot];
     depth[slot] = 8;
-    let mut i = 0;
-    while i < a {
-        depth[n + i] = d + 1;
-        i += 1;
-    }
+    depth[n..n + a].fill(d + 1);
     Slots { n: n + a, depth }
 }
 
@@ -41,41 +36,34 @@ pub fn all_fit(s: &[u8], cons: usize, n: usize, have: usize) -> bool
     requires { (cons + 2 * n ≤ length s.now) × (have ≤ 64) }
     ensures { result ≡ all_fit have (cons_from s.now cons n) }
 {
-    let mut at = cons;
-    let mut left = n;
-    while 0 < left {
-        if 64 < have + wide(s[at + 1]) {
+    for i in 0..n {
+        if 64 < have + s[cons + 2 * i + 1] as usize {
             return false;
         }
-        at += 2;
-        left -= 1;
     }
     true
 }
 
-// Whether a slot can be split by a type, and what its children are.
-pub fn splits(s: &[u8], types: usize, slots: Slots, slot: usize, ty: TypeNo) -> Split
+// The type by which a slot is split, if it can be.
+pub fn splits(s: &[u8], types: usize, slots: Slots, slot: usize, ty: TypeNo) -> Option<TypeInfo>
     requires { Front s.now types × Kept slots }
     ensures { SplitIs s.now slots slot ty.0 result }
 {
-    let n = slots.n;
-    let depth = slots.depth;
-    if n <= slot {
-        return Split::Not;
+    if slots.n <= slot {
+        return None;
     }
-    if 8 <= depth[slot] {
-        return Split::Not;
+    if 8 <= slots.depth[slot] {
+        return None;
     }
-    if types <= wide(ty.0) {
-        return Split::Not;
+    if types <= ty.0 as usize {
+        return None;
     }
     let i = type_at(s, ty);
-    let at = i.at;
-    let count = i.count;
-    if all_fit(s, at + 2, count, n) {
-        return Split::Can(at + 2, count);
+    if all_fit(s, i.at + 2, i.count, slots.n) {
+        Some(i)
+    } else {
+        None
     }
-    Split::Not
 }
 
 // A tree: SPLIT, RULE or NONE, in a part of the book.
@@ -88,35 +76,41 @@ pub fn read_tree(
     funcs: &[u8],
     slots: Slots,
     at: usize,
-) -> Step
+) -> Result<usize, Fault>
     requires { Lore book.now cons.now types × Kept slots }
     ensures { TreeIs s.now (types_of book.now) funcs.now (live slots) at result }
 {
-    let r = rec_at(s, at);
-    let Rec::Of(kind, a, b, e) = r else {
-        return bad(r, at);
-    };
-    match kind {
-        4 => {
-            let slot = wide(a);
-            let can = splits(book, types, slots, slot, TypeNo(b));
-            let Split::Can(first, n) = can else {
-                return Step::Fault(Sort::Range, at);
+    let r = rec_at(s, at)?;
+    match r.kind {
+        Kind::Split => {
+            let slot = r.a as usize;
+            let Some(i) = splits(book, types, slots, slot, TypeNo(r.b)) else {
+                return Err(Fault::new(Sort::Range, at));
             };
-            read_trees(s, book, types, cons, funcs, slots, slot, first, n, e)
+            read_trees(
+                s,
+                book,
+                types,
+                cons,
+                funcs,
+                slots,
+                slot,
+                i.at + 2,
+                i.count,
+                r.end,
+            )
         }
-        5 => {
-            if a == 0 {
-                return Step::Fault(Sort::Range, at);
+        Kind::Rule => {
+            if r.a == 0 {
+                return Err(Fault::new(Sort::Range, at));
             }
-            if 16 < a {
-                return Step::Fault(Sort::Range, at);
+            if 16 < r.a {
+                return Err(Fault::new(Sort::Range, at));
             }
-            let n = wide(a);
-            read_rights(s, cons, funcs, slots.n, n, e)
+            read_rights(s, cons, funcs, slots.n, r.a as usize, r.end)
         }
-        11 => Step::Next(e),
-        _ => Step::Fault(Sort::Unexpected, at),
+        Kind::None => Ok(r.end),
+        _ => Err(Fault::new(Sort::Unexpected, at)),
     }
 }
 
@@ -132,24 +126,16 @@ pub fn read_trees(
     slot: usize,
     first: usize,
     n: usize,
-    at: usize,
-) -> Step
+    from: usize,
+) -> Result<usize, Fault>
     requires lore { Lore book.now cons.now types × CanSplit slots slot }
     requires all_fit { AllFit book.now slots.n first n }
-    ensures { TreesIs s.now (types_of book.now) funcs.now (live slots) slot (cons_from book.now first n) at result }
+    ensures { TreesIs s.now (types_of book.now) funcs.now (live slots) slot (cons_from book.now first n) from result }
 {
-    let mut k = at;
-    let mut con = first;
-    let mut left = n;
-    while 0 < left {
-        let a = wide(book[con + 1]);
-        let one = read_tree(s, book, types, cons, funcs, under(slots, slot, a), k);
-        let Step::Next(e) = one else {
-            return one;
-        };
-        k = e;
-        con += 2;
-        left -= 1;
+    let mut at = from;
+    for i in 0..n {
+        let a = book[first + 2 * i + 1] as usize;
+        at = read_tree(s, book, types, cons, funcs, under(slots, slot, a), at)?;
     }
-    Step::Next(k)
+    Ok(at)
 }

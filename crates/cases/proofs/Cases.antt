@@ -14,9 +14,9 @@ use borrow.Author.Tests.{lt-leb}
 use Rattle.book.specs.Syntax.{Book, Right, arity, con_arities}
 use Rattle.book.specs.declared.Sort.{Sort}
 use Rattle.book.specs.declared.Sort.TheVariants.{Unknown, End}
-use Rattle.book.specs.declared.Step.{Step}
-use Rattle.book.specs.declared.Step.TheVariants.{Next, Fault}
-use Rattle.book.specs.Record.{Got, got, fault, scan, any_fits}
+use Rattle.std.specs.Prelude.{Result, Ok, Err}
+use Rattle.book.specs.declared.Fault.{Fault}
+use Rattle.book.specs.Record.{Got, got, fault, bad, scan, any_fits}
 use Rattle.book.specs.Reading.{after, read_right, last, read_alone, read_book, read_question}
 use Rattle.book.proofs.Fronts.{step-got, step-fault, after-got, after-fault}
 use Rattle.engine.specs.Compile.{compile}
@@ -33,31 +33,31 @@ use Rattle.cases.proofs.Passes.{parts, pass-lost, first-pass}
 use Rattle.cases.proofs.Long.{right-front, last-front}
 
 -- a question at fault in its first pass; and one that is not
-alone-fault : (cons funcs q : List ℕ) {w : Sort} {p : ℕ} → found (passed start q) ≡ Fault w p → read_alone cons funcs q ≡ fault w p
+alone-fault : (cons funcs q : List ℕ) {f : Fault} → found (passed start q) ≡ Err f → read_alone cons funcs q ≡ fault f.sort f.at
 unfolding read_alone
 alone-fault cons funcs q h = after-fault _ (step-fault (scan q any_fits (length q) 0 0) (sym (first-pass q) ∙ h))
 
-alone-next : (cons funcs q : List ℕ) {k : ℕ} → found (passed start q) ≡ Next k → read_alone cons funcs q ≡ after (read_right q cons funcs none 0) (last q)
+alone-next : (cons funcs q : List ℕ) {k : ℕ} → found (passed start q) ≡ Ok k → read_alone cons funcs q ≡ after (read_right q cons funcs none 0) (last q)
 unfolding read_alone
 alone-next cons funcs q h = let g = step-got (scan q any_fits (length q) 0 0) (sym (first-pass q) ∙ h) in after-got _ g.1
 
 -- a question, by what is kept of it and by the first pass over all of it
-unfoldable Judged : Step → Got Right → Got Right → Type 0
-Judged (Next k) all kept = all ≡ kept
-Judged (Fault w p) all kept = (all ≡ fault w p) × ((v : Sort) × ((q : ℕ) × (kept ≡ fault v q)))
+unfoldable Judged : Result ℕ Fault → Got Right → Got Right → Type 0
+Judged (Ok k) all kept = all ≡ kept
+Judged (Err f) all kept = (all ≡ fault f.sort f.at) × ((v : Sort) × ((q : ℕ) × (kept ≡ fault v q)))
 
 module _ (cons funcs q rest : List ℕ) where
   -- a question all of which is kept
-  judged-all : rest ≡ [] → (x : Step) → found (passed start (q ++ rest)) ≡ x → Judged x (read_alone cons funcs (q ++ rest)) (read_alone cons funcs q)
+  judged-all : rest ≡ [] → (x : Result ℕ Fault) → found (passed start (q ++ rest)) ≡ x → Judged x (read_alone cons funcs (q ++ rest)) (read_alone cons funcs q)
   unfolding Judged
-  judged-all r (Next k) f = ap (read_alone cons funcs) (ap (λ (l : List ℕ). q ++ l) r ∙ append-nil q)
-  judged-all r (Fault w p) f =
+  judged-all r (Ok k) f = ap (read_alone cons funcs) (ap (λ (l : List ℕ). q ++ l) r ∙ append-nil q)
+  judged-all r (Err v) f =
       let z = ap (read_alone cons funcs) (ap (λ (l : List ℕ). q ++ l) r ∙ append-nil q) in
       let g = alone-fault cons funcs (q ++ rest) f in
-      (g, (w, (p, sym z ∙ g)))
+      (g, (v.sort, (v.at, sym z ∙ g)))
 
   -- one whose start is kept: whole records, or an unknown kind
-  judged-whole : 768 < length q → (n : ℕ) → passed start q ≡ Whole n → (x : Step) → found (passed start (q ++ rest)) ≡ x → Judged x (read_alone cons funcs (q ++ rest)) (read_alone cons funcs q)
+  judged-whole : 768 < length q → (n : ℕ) → passed start q ≡ Whole n → (x : Result ℕ Fault) → found (passed start (q ++ rest)) ≡ x → Judged x (read_alone cons funcs (q ++ rest)) (read_alone cons funcs q)
   unfolding Judged found
   judged-whole h n w x f =
       let r = right-front q rest n cons funcs h w in
@@ -65,23 +65,23 @@ module _ (cons funcs q rest : List ℕ) where
       let here = alone-next cons funcs q (ap found w) in
       go x f l here r.same
     where
-      go : (x : Step) → found (passed start (q ++ rest)) ≡ x
+      go : (x : Result ℕ Fault) → found (passed start (q ++ rest)) ≡ x
           → (after (read_right q cons funcs none 0) (last (q ++ rest)) ≡ after (read_right q cons funcs none 0) (last q)) × ((w : Sort) × ((p : ℕ) × (after (read_right q cons funcs none 0) (last q) ≡ fault w p)))
           → read_alone cons funcs q ≡ after (read_right q cons funcs none 0) (last q)
           → read_right (q ++ rest) cons funcs none 0 ≡ read_right q cons funcs none 0
           → Judged x (read_alone cons funcs (q ++ rest)) (read_alone cons funcs q)
-      go (Next k) f l here same = alone-next cons funcs (q ++ rest) f ∙ ap (λ (y : Got Right). after y (last (q ++ rest))) same ∙ l.0 ∙ sym here
-      go (Fault v p) f l here same = (alone-fault cons funcs (q ++ rest) f, (l.1.0, (l.1.1.0, here ∙ l.1.1.1)))
+      go (Ok k) f l here same = alone-next cons funcs (q ++ rest) f ∙ ap (λ (y : Got Right). after y (last (q ++ rest))) same ∙ l.0 ∙ sym here
+      go (Err v) f l here same = (alone-fault cons funcs (q ++ rest) f, (l.1.0, (l.1.1.0, here ∙ l.1.1.1)))
 
-  judged-lost : (j : ℕ) → passed start q ≡ Lost j → (x : Step) → found (passed start (q ++ rest)) ≡ x → Judged x (read_alone cons funcs (q ++ rest)) (read_alone cons funcs q)
+  judged-lost : (j : ℕ) → passed start q ≡ Lost j → (x : Result ℕ Fault) → found (passed start (q ++ rest)) ≡ x → Judged x (read_alone cons funcs (q ++ rest)) (read_alone cons funcs q)
   unfolding Judged found
-  judged-lost j w (Next k) f =
-      let z : found (passed start (q ++ rest)) ≡ Fault Unknown j = rw (parts start q rest, w, pass-lost j rest) in
+  judged-lost j w (Ok k) f =
+      let z : found (passed start (q ++ rest)) ≡ bad Unknown j = rw (parts start q rest, w, pass-lost j rest) in
       let y : ◌≡◌ {A = ℕ} 0 1 = cc in
       absurd (omega arith)
-  judged-lost j w (Fault v p) f = (alone-fault cons funcs (q ++ rest) f, (Unknown, (j, alone-fault cons funcs q (ap found w))))
+  judged-lost j w (Err v) f = (alone-fault cons funcs (q ++ rest) f, (Unknown, (j, alone-fault cons funcs q (ap found w))))
 
-  judged-start : 768 < length q → (s : Passed) → passed start q ≡ s → AtEnd s → (x : Step) → found (passed start (q ++ rest)) ≡ x → Judged x (read_alone cons funcs (q ++ rest)) (read_alone cons funcs q)
+  judged-start : 768 < length q → (s : Passed) → passed start q ≡ s → AtEnd s → (x : Result ℕ Fault) → found (passed start (q ++ rest)) ≡ x → Judged x (read_alone cons funcs (q ++ rest)) (read_alone cons funcs q)
   unfolding AtEnd
   judged-start h (Whole n) w a x f = judged-whole h n w x f
   judged-start h (Begun k m e) w a x f = absurd a
@@ -101,7 +101,7 @@ book-kept b more (inl r) = ap read_book (ap (λ (l : List ℕ). b ++ l) r ∙ ap
 book-kept b more (inr h) = let long = length-append b more in book-long (b ++ more) (omega arith) ∙ sym (book-long b h)
 
 -- where the first pass finds nothing, an answer stands
-settled-next : (k : ℕ) (o : e.Outcome) → settled_in (Next k) o ≡ o
+settled-next : (k : ℕ) (o : e.Outcome) → settled_in (Ok k) o ≡ o
 unfolding settled_in settled first
 settled-next k (e.outcome e.emptied c r d) = refl
 settled-next k (e.outcome e.spent c r d) = refl
@@ -124,10 +124,10 @@ asked l book go x = elim x [
   ]
 ]
 
-asked-settled : (l : e.Limits) (book : Book) (go : Book → Right → e.Outcome) (x : Step) (all kept : Got Right) → Judged x all kept → asked l book go all ≡ settled_in x (asked l book go kept)
+asked-settled : (l : e.Limits) (book : Book) (go : Book → Right → e.Outcome) (x : Result ℕ Fault) (all kept : Got Right) → Judged x all kept → asked l book go all ≡ settled_in x (asked l book go kept)
 unfolding Judged asked settled_in settled first e.refused
-asked-settled l book go (Next k) all kept j = ap (asked l book go) j ∙ sym (settled-next k (asked l book go kept))
-asked-settled l book go (Fault w p) all kept j = rw (j.0, j.1.1.1)
+asked-settled l book go (Ok k) all kept j = ap (asked l book go) j ∙ sym (settled-next k (asked l book go kept))
+asked-settled l book go (Err v) all kept j = rw (j.0, j.1.1.1)
 
 module _ (l : e.Limits) (m : e.Lent) (go : Book → Right → e.Outcome) where
   checked-limits : (b q : List ℕ) → (e.in_range l && e.lent_fits l m) ≡ false → e.checked l m b q go ≡ e.refused e.bad_limits
@@ -169,7 +169,7 @@ unfolding e.machine
 machine-settled l m b more q rest p K = checked-settled l m _ b more q rest p K
 
 -- a refusal that is settled was one
-refusal-settled : (s : Step) (a : e.Answer) → Refusal (settled s a) → Refusal a
+refusal-settled : (s : Result ℕ Fault) (a : e.Answer) → Refusal (settled s a) → Refusal a
 unfolding settled first
 refusal-settled s e.emptied x = x
 refusal-settled s e.spent x = x
@@ -196,7 +196,7 @@ answered a o = record {
   written = o.written;
 }
 
-gives-settled : (s : Step) (o : e.Outcome) (r : Outcome) (a : Answer) {work work' code code' results results' : List ℕ} → answer_is a ≡ settled s (answer_is r.answer)
+gives-settled : (s : Result ℕ Fault) (o : e.Outcome) (r : Outcome) (a : Answer) {work work' code code' results results' : List ℕ} → answer_is a ≡ settled s (answer_is r.answer)
     → Gives o r work work' code code' results results' → Gives (settled_in s o) (answered a r) work work' code code' results results'
 unfolding settled_in answer_of counts_of counts_is told_by e.tells e.results_of e.code_of e.results_after e.code_after
 gives-settled s (e.outcome x k out code) r a h G =

@@ -13,9 +13,9 @@ use borrow.Author.Tests.{ltb-true, leb-true, leb-false, lt-ltb, eqb-true, eqb-fa
 use Rattle.book.specs.Syntax.{Terms, Right, done}
 use Rattle.book.specs.declared.Sort.{Sort}
 use Rattle.book.specs.declared.Sort.TheVariants.{End}
-use Rattle.book.specs.declared.Rec.{Rec}
-use Rattle.book.specs.declared.Rec.TheVariants.{Of}
-use Rattle.book.specs.Record.{Got, got, fault, bodies, body_of, body_byte, rec_at}
+use Rattle.book.specs.declared.Fault.{Fault}
+use Rattle.std.specs.Prelude.{Result, Ok}
+use Rattle.book.specs.Record.{Rec, Got, got, fault, bodies, body_of, body_byte, rec_at}
 use Rattle.book.specs.Reading.{after, make, Case, case, pick, Names, Head, slot_case, read_head, joined, the_one, read_terms, read_right, last}
 use Rattle.book.proofs.Records.{rec-of}
 use Rattle.book.proofs.Enough.{room-ends}
@@ -47,13 +47,11 @@ unfolding body_of few few_all
 body-few x q = few-at bodies refl x q
 
 -- a record with whole records behind it
-record Sound (s : List ℕ) (n k e : ℕ) (r : Rec) : Type 0 where
-  kind : ℕ
-  a : ℕ
-  b : ℕ
-  is : r ≡ Of kind a b e
-  near : e ≤ k + 3
-  on : passed (Whole e) (drop e s) ≡ Whole n
+record Sound (s : List ℕ) (n k : ℕ) (res : Result Rec Fault) : Type 0 where
+  rec : Rec
+  is : res ≡ Ok rec
+  near : rec.end ≤ k + 3
+  on : passed (Whole rec.end) (drop rec.end s) ≡ Whole n
 
 -- what reads a place: nothing beyond n
 unfoldable pub Within : {A : Type 0} → ℕ → Got A → Type 0
@@ -79,15 +77,15 @@ unfoldable AllBehind : {A : Type 0} → List (Case A) → Type 0
 AllBehind [] = Unit {0}
 AllBehind (c ∷ cases) = ((a b e : ℕ) → Behind e (c.read a b e)) × AllBehind cases
 
-pick-behind : {A : Type 0} (cases : List (Case A)) → AllBehind cases → (k : ℕ) {r : Rec} {kind a b e : ℕ} → r ≡ Of kind a b e → Behind e (pick cases k r)
+pick-behind : {A : Type 0} (cases : List (Case A)) → AllBehind cases → (k : ℕ) {r : Rec} {res : Result Rec Fault} → res ≡ Ok r → Behind r.end (pick cases k res)
 unfolding AllBehind Behind
-pick-behind {A} [] h k {e} q = subst (λ (x : Got A). Behind e x) (sym (pick-none k q)) tt
-pick-behind {A} (c ∷ cases) h k {r} {kind} {a} {b} {e} q = go (eqb kind c.kind) refl (c.fits a b) refl (pick-behind cases h.1 k q)
+pick-behind {A} [] h k {r} q = subst (λ (x : Got A). Behind r.end x) (sym (pick-none k q)) tt
+pick-behind {A} (c ∷ cases) h k {r} {res} q = go (eqb r.kind c.kind) refl (c.fits r.a r.b) refl (pick-behind cases h.1 k q)
   where
-    go : (t : Bool) → eqb kind c.kind ≡ t → (u : Bool) → c.fits a b ≡ u → Behind e (pick cases k r) → Behind e (pick (c ∷ cases) k r)
-    go false t u' u ih = subst (λ (x : Got A). Behind e x) (sym (pick_next k c cases q (eqb-false _ _ t))) ih
-    go true t false u ih = subst (λ (x : Got A). Behind e x) (sym (pick-unfit k c cases q (eqb-true _ _ t) u)) tt
-    go true t true u ih = subst (λ (x : Got A). Behind e x) (sym (pick-fit k c cases q (eqb-true _ _ t) u)) (h.0 a b e)
+    go : (t : Bool) → eqb r.kind c.kind ≡ t → (u : Bool) → c.fits r.a r.b ≡ u → Behind r.end (pick cases k res) → Behind r.end (pick (c ∷ cases) k res)
+    go false t u' u ih = subst (λ (x : Got A). Behind r.end x) (sym (pick_next k c cases q (eqb-false _ _ t))) ih
+    go true t false u ih = subst (λ (x : Got A). Behind r.end x) (sym (pick-unfit k c cases q (eqb-true _ _ t) u)) tt
+    go true t true u ih = subst (λ (x : Got A). Behind r.end x) (sym (pick-fit k c cases q (eqb-true _ _ t) u)) (h.0 r.a r.b r.end)
 
 slots-behind : (o : Option ℕ) (m : Bool) → AllBehind (slot_case o m)
 unfolding AllBehind slot_case Behind
@@ -104,8 +102,7 @@ byte-front s t k m i l = go (ltb i m) refl
 
 -- where whole records follow, a place within the start has one, the same in the whole
 record Front (s t : List ℕ) (n k : ℕ) : Type 0 where
-  e : ℕ
-  sound : Sound s n k e (rec_at s k)
+  sound : Sound s n k (rec_at s k)
   same : rec_at (s ++ t) k ≡ rec_at s k
 
 front : (s t : List ℕ) (n k : ℕ) → k < length s → passed (Whole k) (drop k s) ≡ Whole n → Front s t n k
@@ -125,8 +122,7 @@ front s t n k h p = kinds (body_of (get_or s k 0)) refl
         let x = byte-front s t k m 0 l in
         let y = byte-front s t k m 1 l in
         record {
-          e = k + 1 + m;
-          sound = record { kind = _; a = _; b = _; is = here; near = omega arith; on = sym (pass-whole s k h m q l) ∙ p };
+          sound = record { rec = _; is = here; near = omega arith; on = sym (pass-whole s k h m q l) ∙ p };
           same = there ∙ rw (g, x, y) (sym here);
         }
 
@@ -138,7 +134,7 @@ head-front : (s t : List ℕ) (names : Names) (more : Bool) (k : ℕ) → rec_at
 unfolding read_head
 head-front s t names more k q = rw q
 
-head-behind : (s : List ℕ) (names : Names) (more : Bool) (k : ℕ) {kind a b e : ℕ} → rec_at s k ≡ Of kind a b e → Behind e (read_head s names more k)
+head-behind : (s : List ℕ) (names : Names) (more : Bool) (k : ℕ) {r : Rec} → rec_at s k ≡ Ok r → Behind r.end (read_head s names more k)
 unfolding read_head AllBehind Behind
 head-behind s names more k q = pick-behind _ ((λ a b e. refl), ((λ a b e. refl), ((λ a b e. refl), slots-behind names.slots more))) k q
 
@@ -162,7 +158,7 @@ terms-front s t n names (suc room) (suc due) k h p =
     let f = front s t n k (omega arith) p in
     go f (read_head s names true k) refl (head-behind s names true k f.sound.is) (λ due e h p. terms-front s t n names room due e h p)
   where
-    go : (f : Front s t n k) (x : Got Head) → read_head s names true k ≡ x → Behind f.e x
+    go : (f : Front s t n k) (x : Got Head) → read_head s names true k ≡ x → Behind f.sound.rec.end x
         → ((due e : ℕ) → e + 3 * room < length s → passed (Whole e) (drop e s) ≡ Whole n → Alike s t names room due e) → Alike s t names (suc room) (suc due) k
     go f (fault w q) r b ih =
         let r' = head-front s t names true k f.same ∙ r in
@@ -189,12 +185,12 @@ right_case s cons funcs = case 6 (λ v _. leb v 8) (λ v _ e. make (λ ts. recor
 
 pub right-front : (s t : List ℕ) (n : ℕ) (cons funcs : List ℕ) → 768 < length s → passed start s ≡ Whole n → Begins s t cons funcs
 unfolding read_right Within
-right-front s t n cons funcs h p = let f = front s t n 0 (omega arith) p in go f (eqb f.sound.kind 6) refl (leb f.sound.a 8) refl
+right-front s t n cons funcs h p = let f = front s t n 0 (omega arith) p in go f (eqb f.sound.rec.kind 6) refl (leb f.sound.rec.a 8) refl
   where
     question : ℕ → Names
     question v = record { cons = cons; funcs = funcs; slots = none; vars = v }
 
-    go : (f : Front s t n 0) (b : Bool) → eqb f.sound.kind 6 ≡ b → (c : Bool) → leb f.sound.a 8 ≡ c → Begins s t cons funcs
+    go : (f : Front s t n 0) (b : Bool) → eqb f.sound.rec.kind 6 ≡ b → (c : Bool) → leb f.sound.rec.a 8 ≡ c → Begins s t cons funcs
     go f false b c' c =
         let q = f.sound.is in
         let u = pick_next 0 (right_case s cons funcs) [] q (eqb-false _ _ b) ∙ pick-none 0 q in
@@ -210,10 +206,10 @@ right-front s t n cons funcs h p = let f = front s t n 0 (omega arith) p in go f
         let near = f.sound.near in
         let u = pick-fit 0 (right_case s cons funcs) [] q (eqb-true _ _ b) c in
         let v = pick-fit 0 (right_case (s ++ t) cons funcs) [] (f.same ∙ q) (eqb-true _ _ b) c in
-        let i = terms-front s t n (question f.sound.a) 255 1 f.e (omega arith) f.sound.on in
+        let i = terms-front s t n (question f.sound.rec.a) 255 1 f.sound.rec.end (omega arith) f.sound.on in
         record {
           same = v ∙ ap (make _) i.same ∙ sym u;
-          within = subst (λ (x : Got Right). Within 768 x) (sym u) (within-make _ _ _ (within_more (f.e + 765) 768 (read_terms s (question f.sound.a) 255 1 f.e) (omega arith) i.within));
+          within = subst (λ (x : Got Right). Within 768 x) (sym u) (within-make _ _ _ (within_more (f.sound.rec.end + 765) 768 (read_terms s (question f.sound.rec.a) 255 1 f.sound.rec.end) (omega arith) i.within));
         }
 
 -- what comes behind what was read within the start is too much, in the start and in the whole

@@ -5,33 +5,29 @@ use mathlib.Core.Logic.{inl, inr}
 use mathlib.Core.Bool.{Bool, true, false}
 use mathlib.Core.Path.{◌≡◌, refl, ap, sym, ◌∙◌, subst, subst⁻¹}
 use mathlib.Core.List.{List, [], ◌∷◌, ◌++◌, append-nil, append_assoc}
-use mathlib.Core.Option.{Option, none, some}
-use lib.ListN.{length, take, drop, length-append, length-drop, take-append-drop, replicate, length-replicate}
+use mathlib.Core.Option.{none, some}
+use Rattle.std.specs.Prelude.{Option, Some, None}
+use mathlib.Core.Option as math
+use lib.ListN.{length, take, drop, length-take, length-append, length-drop, take-append-drop, replicate, length-replicate}
 use lib.Seq.{length-take-le, length_front, take-length, take_at, take-append-le, take-take}
 use lib.Dec.{ltb}
 use native.Mathlib.Omega.{arith}
 use borrow.Author.Tests.{ltb-true, ltb-false}
-use Rattle.run.specs.declared.Limits.{Limits}
 use Rattle.run.specs.declared.Outcome.{Outcome}
 use Rattle.cases.specs.declared.Passed.{Passed}
 use Rattle.cases.specs.declared.Passed.TheVariants.{Whole, Begun, Lost}
-use Rattle.cases.specs.declared.Head.{Head}
-use Rattle.cases.specs.declared.Head.TheVariants as head
-use Rattle.cases.specs.declared.Rest.{Rest}
-use Rattle.cases.specs.declared.Rest.TheVariants as rest
-use Rattle.cases.specs.declared.Taken.TheVariants as taken
-use Rattle.cases.specs.Parts.{begun, due, byte, passed, start, reach}
+use Rattle.cases.specs.declared.Case.{Case}
 use Rattle.cases.specs.declared.Question.{Question}
-use Rattle.cases.specs.declared.Question.TheVariants as question
-use Rattle.cases.specs.Whole.{AtEnd, BookKept, QuestionKept, whole_part, HeadIs, Over, RestIs, PartOf, Shown, QuestionIs, CaseRan, TakenIs}
+use Rattle.cases.specs.Parts.{begun, due, byte, passed, start, reach}
+use Rattle.cases.specs.Whole.{AtEnd, BookKept, QuestionKept, whole_part, Over, PartOf, Shown, QuestionIs, CaseRan, CaseTaken}
 use Rattle.cases.proofs.Passes.{parts, pass-none, reach-part}
 use Rattle.cases.proofs.Long.{body-few}
 use Rattle.book.specs.Record.{body_of}
 
 -- bytes read into the first m of a slice
-pub read-few : (m n : ℕ) (chunk part : List ℕ) {r : ℕ} → r ≤ length part → length part ≡ length (take m chunk) → m ≤ n → m ≤ length chunk → (r ≤ n) × (r ≤ length (part ++ drop m chunk))
-read-few m n chunk part h k l f =
-    let a = length-take-le m chunk f in
+pub read-few : (m : ℕ) (chunk part : List ℕ) {r : ℕ} → r ≤ length part → length part ≡ length (take m chunk) → (r ≤ m) × (r ≤ length (part ++ drop m chunk))
+read-few m chunk part h k =
+    let a = length-take m chunk in
     let b = length-append part (drop m chunk) in
     (omega arith, omega arith)
 
@@ -66,8 +62,7 @@ module _ {p : Passed} {n left : ℕ} {r : Passed} (P : Passing p n left r) where
         few = omega (arith, P.few);
       }
 
-  pub passing-done : left ≤ 0 → RestIs p n (rest.Are r)
-  unfolding RestIs
+  pub passing-done : left ≤ 0 → Over p n r
   passing-done l = let o = P.over in record { bytes = o.bytes; many = omega (arith, o.many); pass = o.pass }
 
 -- what a pass over bytes has seen of them
@@ -76,7 +71,7 @@ Seen s (Whole k) = k ≡ length s
 Seen s (Begun k m e) = (e ≡ length s) × (k < e) × (e + m < k + 3) × (passed start (take k s) ≡ Whole k)
 Seen s (Lost k) = Unit {0}
 
-seen-begun : (s : List ℕ) (x k : ℕ) → passed start s ≡ Whole k → k ≡ length s → (o : Option ℕ) → body_of x ≡ o → Seen (s ++ x ∷ []) (begun k o)
+seen-begun : (s : List ℕ) (x k : ℕ) → passed start s ≡ Whole k → k ≡ length s → (o : math.Option ℕ) → body_of x ≡ o → Seen (s ++ x ∷ []) (begun k o)
 unfolding Seen begun
 seen-begun s x k h l none q = tt
 seen-begun s x k h l (some zero) q = let a = length-append s (x ∷ []) in omega arith
@@ -106,8 +101,7 @@ unfolding Seen
 seen s = seen_more [] s start (pass-none start) refl
 
 -- a question all of which was read
-pub look-all : (part : List ℕ) {q : ℕ} {p : Passed} → length part ≡ q → p ≡ passed start part → QuestionIs part q (question.Kept (length part) p)
-unfolding QuestionIs
+pub look-all : (part : List ℕ) {q : ℕ} {p : Passed} → length part ≡ q → p ≡ passed start part → Shown part q (length part) p
 look-all part h e =
     record {
       rest = [];
@@ -170,16 +164,15 @@ module _ (part : List ℕ) (q : ℕ) (P : PartOf part q) (d : length part ≡ q 
         pass = behind (Lost k) e o (length part) (omega arith);
       }
 
-  pub look-some : {p r : Passed} {n : ℕ} {x : Rest} → p ≡ passed start part → x ≡ rest.Are r → RestIs p (q - length part) x → n ≡ whole_part p (length part) → QuestionIs part q (question.Kept n r)
-  unfolding QuestionIs RestIs
-  look-some {p} {r} e y o w =
-      subst⁻¹ (λ (k : ℕ). Shown part q k r) w (look-part p (sym e) (subst⁻¹ (Seen part) e (seen part)) (subst (RestIs p (q - length part)) y o))
+  pub look-some : {p r : Passed} {n : ℕ} → p ≡ passed start part → Over p (q - length part) r → n ≡ whole_part p (length part) → Shown part q n r
+  look-some {p} {r} e o w = subst⁻¹ (λ (k : ℕ). Shown part q k r) w (look-part p (sym e) (subst⁻¹ (Seen part) e (seen part)) o)
 
 -- what is shown of a part is shown of the slice
-shown-in : (kept : List ℕ) (q m : ℕ) (x : Question) → m ≤ length kept → QuestionIs (take m kept) q x → QuestionIs kept q x
-unfolding QuestionIs
-shown-in kept q m question.Cut f s = tt
-shown-in kept q m (question.Kept n p) f s =
+shown-in : (kept : List ℕ) (q m : ℕ) (x : Option Question) → m ≤ length kept → QuestionIs (take m kept) q x → QuestionIs kept q x
+shown-in kept q m None f s = tt
+shown-in kept q m (Some k) f s =
+    let n = k.shown in
+    let p = k.pass in
     let t = length-take-le m kept f in
     let g = s.fits in
     let y = take-take n m kept (omega arith) in
@@ -192,45 +185,29 @@ shown-in kept q m (question.Kept n p) f s =
     }
 
 -- bytes read into the first m of a slice, which holds these afterwards
-module _ (old part : List ℕ) (m : ℕ) (k : length part ≡ length (take m old)) (q : ℕ) (l : (m ≤ q) × (m ≤ length old) × (m ≡ min q (length old))) where
+module _ (old part : List ℕ) (m : ℕ) (k : length part ≡ length (take m old)) (q : ℕ) (l : m ≡ min q (length old)) where
   as_long : length (part ++ drop m old) ≡ length old
   as_long = length_front old part m k
 
-  pub part-long : m ≡ length (take m (part ++ drop m old))
-  part-long = let a = as_long in sym (length-take-le m (part ++ drop m old) (omega arith))
-
-  pub part_of : (771 ≤ length old) × (q < 4294967296) → PartOf (take m (part ++ drop m old)) q
-  part_of h = let t = part-long in record { fits = omega arith; short = h.1; enough = λ d. omega arith }
-
-  pub part-shown : (x : Question) → QuestionIs (take m (part ++ drop m old)) q x → QuestionIs (part ++ drop m old) q x
+  pub part-shown : (x : Option Question) → QuestionIs (take m (part ++ drop m old)) q x → QuestionIs (part ++ drop m old) q x
   part-shown x s = let a = as_long in shown-in (part ++ drop m old) q m x (omega arith) s
 
--- a case's numbers
-pub was-head : {x : Head} {l : Limits} {b q : ℕ} → HeadIs x → x ≡ head.Is l b q → (b < 4294967296) × (q < 4294967296)
-unfolding HeadIs
-was-head s e = subst HeadIs e s
-
--- a question that was kept
-pub was-kept : (kept : List ℕ) (q : ℕ) {x : Question} {n : ℕ} {p : Passed} → QuestionIs kept q x → x ≡ question.Kept n p → Shown kept q n p
-unfolding QuestionIs
-was-kept kept q s e = subst (QuestionIs kept q) e s
-
 -- what is kept of a book of b bytes, and others for the rest
-book-rest : (kept : List ℕ) (b m : ℕ) → 32769 ≤ length kept → (m ≤ b) × (m ≤ length kept) × (m ≡ min b (length kept)) → BookKept (take m kept) (replicate (b - m) 0)
+book-rest : (kept : List ℕ) (b m : ℕ) → 32769 ≤ length kept → m ≡ min b (length kept) → BookKept (take m kept) (replicate (b - m) 0)
 book-rest kept b m h l = go (ltb m b) refl
   where
     go : (t : Bool) → ltb m b ≡ t → BookKept (take m kept) (replicate (b - m) 0)
-    go true t = (let g = ltb-true m b t in let y = length-take-le m kept l.1 in inr (omega arith))
+    go true t = (let g = ltb-true m b t in let y = length-take-le m kept (omega arith) in inr (omega arith))
     go false t = (let g = ltb-false m b t in let z : b - m ≡ 0 = omega arith in inl (rw z))
 
 -- a case that was read and run
-pub case-taken : (l : Limits) (b q : ℕ) (book asked : List ℕ) (m n : ℕ) (p : Passed) (r : Outcome) {work work' code code' results results' : List ℕ} → 32769 ≤ length book
-    → (m ≤ b) × (m ≤ length book) × (m ≡ min b (length book)) → Shown asked q n p → CaseRan l (take m book) (take n asked) p r work work' code code' results results'
-    → TakenIs l b q (taken.Gave r) work work' code code' results results'
-unfolding TakenIs
-case-taken l b q book asked m n p r h f s C =
+pub case-taken : (c : Case) (book asked : List ℕ) (m n : ℕ) (p : Passed) (r : Outcome) {work work' code code' results results' : List ℕ} → 32769 ≤ length book
+    → m ≡ min c.book (length book) → Shown asked c.question n p → CaseRan c.limits (take m book) (take n asked) p r work work' code code' results results'
+    → CaseTaken c r work work' code code' results results'
+case-taken c book asked m n p r h f s C =
+    let b = c.book in
     let x = length-append (take m book) (replicate (b - m) 0) in
-    let y = length-take-le m book f.1 in
+    let y = length-take-le m book (omega arith) in
     let z = length-replicate {A = ℕ} (b - m) 0 in
     let u = length-append (take n asked) s.rest in
     let v = length-take-le n asked s.fits in

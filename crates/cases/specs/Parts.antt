@@ -2,12 +2,11 @@
 -- Here, in order: the record begun at a place; the next byte; bytes; what the pass has found; how far it has come.
 -- Not here: the first pass over whole bytes (book, Record); that both find the same, and that two parts one behind the other are passed as the whole (proofs, Passes).
 -- Assumes nothing.
-use Rattle.std.specs.Prelude.{ℕ, zero, suc, ◌+◌, List, [], ◌∷◌}
+use Rattle.std.specs.Prelude.{ℕ, zero, suc, ◌+◌, List, [], ◌∷◌, Result, Ok}
 use Rattle.std.proofs.Math.Option.{Option, none, some}
-use Rattle.book.specs.Record.{body_of}
+use Rattle.book.specs.Record.{bad, body_of}
 use Rattle.book.specs.declared.Sort.TheVariants.{Unknown, Cut}
-use Rattle.book.specs.declared.Step.{Step}
-use Rattle.book.specs.declared.Step.TheVariants.{Next, Fault}
+use Rattle.book.specs.declared.Fault.{Fault}
 use Rattle.cases.specs.declared.Passed.{Passed}
 use Rattle.cases.specs.declared.Passed.TheVariants.{Whole, Begun, Lost}
 
@@ -38,10 +37,10 @@ abbrev pub start : Passed
 start = Whole 0
 
 -- what the first pass says, if the bytes end here: a record that is not whole is cut short
-unfoldable pub found : Passed → Step
-found (Whole k) = Next k
-found (Begun k m e) = Fault Cut k
-found (Lost k) = Fault Unknown k
+unfoldable pub found : Passed → Result ℕ Fault
+found (Whole k) = Ok k
+found (Begun k m e) = bad Cut k
+found (Lost k) = bad Unknown k
 
 -- the place after what was passed, or that of an unknown kind
 unfoldable pub reach : Passed → ℕ

@@ -2,24 +2,19 @@
 -- Here, in order: a part's end; what is kept of a book and of a question; what is read of a stream; an answer by the pass over all bytes; the contract of a case's run; a case read and run.
 -- Not here: that this is what the engine gives for all the bytes (proofs, Cases).
 -- Assumes nothing.
-use Rattle.std.specs.Prelude.{ℕ, ◌+◌, ◌≤◌, ◌<◌, ◌≡◌, ◌⊎◌, List, [], ◌++◌, length, take}
+use Rattle.std.specs.Prelude.{ℕ, ◌+◌, ◌≤◌, ◌<◌, ◌≡◌, ◌⊎◌, List, [], ◌++◌, length, take, Option, IfSome, Result, Ok, Err}
 use Rattle.book.specs.declared.Sort.{Sort}
-use Rattle.book.specs.declared.Step.{Step}
-use Rattle.book.specs.declared.Step.TheVariants.{Next, Fault}
+use Rattle.book.specs.declared.Fault.{Fault}
 use Rattle.engine.specs.Run as e
 use Rattle.run.specs.declared.Limits.{Limits}
 use Rattle.run.specs.declared.Outcome.{Outcome}
 use Rattle.run.specs.Given.{Ran}
 use Rattle.cases.specs.declared.Passed.{Passed}
 use Rattle.cases.specs.declared.Passed.TheVariants.{Whole, Begun, Lost}
+use Rattle.cases.specs.declared.Case.{Case}
 use Rattle.cases.specs.declared.Head.{Head}
 use Rattle.cases.specs.declared.Head.TheVariants as head
-use Rattle.cases.specs.declared.Rest.{Rest}
-use Rattle.cases.specs.declared.Rest.TheVariants as rest
 use Rattle.cases.specs.declared.Question.{Question}
-use Rattle.cases.specs.declared.Question.TheVariants as question
-use Rattle.cases.specs.declared.Taken.{Taken}
-use Rattle.cases.specs.declared.Taken.TheVariants as taken
 use Rattle.cases.specs.Parts.{passed, start}
 
 -- the pass stands at no record that is not whole yet
@@ -50,7 +45,7 @@ pub record Kept (b more q rest : List ℕ) (p : Passed) : Type 0 where
 
 -- a case's lengths are numbers of four bytes
 unfoldable pub HeadIs : Head → Type 0
-HeadIs (head.Is l b q) = (b < 4294967296) × (q < 4294967296)
+HeadIs (head.Is c) = (c.book < 4294967296) × (c.question < 4294967296)
 HeadIs head.Ended = Unit {0}
 HeadIs head.Cut = Unit {0}
 
@@ -60,9 +55,8 @@ pub record Over (p : Passed) (n : ℕ) (r : Passed) : Type 0 where
   pub many : length bytes ≡ n
   pub pass : passed p bytes ≡ r
 
-unfoldable pub RestIs : Passed → ℕ → Rest → Type 0
-RestIs p n (rest.Are r) = Over p n r
-RestIs p n rest.Cut = Unit {0}
+abbrev pub RestIs : Passed → ℕ → Option Passed → Type 0
+RestIs p n r = IfSome r (Over p n)
 
 -- a part of a question of so many bytes: all of it, or enough to judge it by
 pub record PartOf (part : List ℕ) (many : ℕ) : Type 0 where
@@ -78,17 +72,16 @@ pub record Shown (kept : List ℕ) (many n : ℕ) (p : Passed) : Type 0 where
   pub enough : QuestionKept (take n kept) rest
   pub pass : passed start (take n kept ++ rest) ≡ p
 
-unfoldable pub QuestionIs : List ℕ → ℕ → Question → Type 0
-QuestionIs kept many (question.Kept n p) = Shown kept many n p
-QuestionIs kept many question.Cut = Unit {0}
+abbrev pub QuestionIs : List ℕ → ℕ → Option Question → Type 0
+QuestionIs kept many x = IfSome x (λ k. Shown kept many k.shown k.pass)
 
 -- a question's fault: that of the first pass over all of it, if there is one
-unfoldable pub first : Step → Sort → ℕ → e.Answer
-first (Next k) w p = e.bad_question w p
-first (Fault v k) w p = e.bad_question v k
+unfoldable pub first : Result ℕ Fault → Sort → ℕ → e.Answer
+first (Ok k) w p = e.bad_question w p
+first (Err f) w p = e.bad_question f.sort f.at
 
 -- an answer, by the first pass over all of the question
-unfoldable pub settled : Step → e.Answer → e.Answer
+unfoldable pub settled : Result ℕ Fault → e.Answer → e.Answer
 settled s e.emptied = e.emptied
 settled s e.spent = e.spent
 settled s e.no_nodes = e.no_nodes
@@ -101,21 +94,20 @@ settled s e.long_code = e.long_code
 settled s e.never = e.never
 
 -- an outcome
-unfoldable pub settled_in : Step → e.Outcome → e.Outcome
+unfoldable pub settled_in : Result ℕ Fault → e.Outcome → e.Outcome
 settled_in s (e.outcome a k results code) = e.outcome (settled s a) k results code
 
 -- The contract of a case's run: of book b and question q, what is given is what the run gives for whatever they are kept of.
 pub record CaseRan (l : Limits) (b q : List ℕ) (p : Passed) (r : Outcome) (work work' code code' results results' : List ℕ) : Type 0 where
   pub ran : (more rest : List ℕ) → Kept b more q rest p → Ran l (b ++ more) (q ++ rest) r work work' code code' results results'
 
--- A case read and run: what is given is what the run gives for a book of b bytes and a question of q.
-pub record CaseTaken (l : Limits) (b q : ℕ) (r : Outcome) (work work' code code' results results' : List ℕ) : Type 0 where
+-- A case read and run: what is given is what the run gives for a book and a question of these lengths.
+pub record CaseTaken (c : Case) (r : Outcome) (work work' code code' results results' : List ℕ) : Type 0 where
   pub book : List ℕ
   pub question : List ℕ
-  pub book_long : length book ≡ b
-  pub question_long : length question ≡ q
-  pub ran : Ran l book question r work work' code code' results results'
+  pub book_long : length book ≡ c.book
+  pub question_long : length question ≡ c.question
+  pub ran : Ran c.limits book question r work work' code code' results results'
 
-unfoldable pub TakenIs : Limits → ℕ → ℕ → Taken → (work work' code code' results results' : List ℕ) → Type 0
-TakenIs l b q (taken.Gave r) work work' code code' results results' = CaseTaken l b q r work work' code code' results results'
-TakenIs l b q taken.Cut work work' code code' results results' = Unit {0}
+abbrev pub TakenIs : Case → Option Outcome → (work work' code code' results results' : List ℕ) → Type 0
+TakenIs c t work work' code code' results results' = IfSome t (λ r. CaseTaken c r work work' code code' results results')

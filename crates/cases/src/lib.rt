@@ -3,7 +3,9 @@
 // Not here: the run (crate run), what is printed (crate lines).
 #![tactic(auto)]
 
-use run::{Limits, Outcome};
+ghost use Rattle.std.specs.Prelude.{◌<◌};
+
+use run::Limits;
 
 mod passing;
 mod stream;
@@ -17,35 +19,30 @@ pub use whole::{run_case, take_case, work_size};
 #[derive(Clone, Copy)]
 pub enum Passed {
     Whole(usize),
-    Begun(usize, usize, usize),
+    Begun { at: usize, due: usize, end: usize },
     Lost(usize),
 }
 
-// A case's numbers: its limits, the lengths of its book and its question. Or the stream ends, before a case or inside it.
+// A case's numbers: its limits, the lengths of its book and its question. A question is shorter than a number of four bytes tells.
+#[derive(Clone, Copy)]
+pub struct Case {
+    pub limits: Limits,
+    pub book: usize,
+    pub question: usize,
+    ghost length: { question < 4294967296 },
+}
+
+// The next case. Or the stream ends, before a case or inside its numbers.
 #[derive(Clone, Copy)]
 pub enum Head {
-    Is(Limits, usize, usize),
+    Is(Case),
     Ended,
     Cut,
 }
 
-// A question that was read: how many bytes of what is kept are for the engine, and the first pass over all of it. Or the stream ends inside it.
+// A question that was read: how many bytes of what is kept are for the engine, and the first pass over all of it.
 #[derive(Clone, Copy)]
-pub enum Question {
-    Kept(usize, Passed),
-    Cut,
-}
-
-// The first pass over bytes that were passed over. Or the stream ends inside them.
-#[derive(Clone, Copy)]
-pub enum Rest {
-    Are(Passed),
-    Cut,
-}
-
-// The outcome of a case. Or the stream ends inside it.
-#[derive(Clone, Copy)]
-pub enum Taken {
-    Gave(Outcome),
-    Cut,
+pub struct Question {
+    pub shown: usize,
+    pub pass: Passed,
 }

@@ -9,15 +9,16 @@ use crate::Passed;
 
 // A record at a place, by its kind.
 #[tactic(auto, unfolding(crate::specs::Parts::begun, book::specs::Record::body_of))]
-fn begin(k: usize, kind: u8) -> Passed
-    requires { k + 1 < 18446744073709551616 }
-    ensures { result ≡ begun k (body_of kind) }
+fn begin(at: usize, kind: u8) -> Passed
+    requires { at + 1 < 18446744073709551616 }
+    ensures { result ≡ begun at (body_of kind) }
 {
+    let end = at + 1;
     match kind {
-        11 => Passed::Whole(k + 1),
-        4 => Passed::Begun(k, 1, k + 1),
-        1..=10 => Passed::Begun(k, 0, k + 1),
-        _ => Passed::Lost(k),
+        11 => Passed::Whole(end),
+        4 => Passed::Begun { at, due: 1, end },
+        1..=10 => Passed::Begun { at, due: 0, end },
+        _ => Passed::Lost(at),
     }
 }
 
@@ -28,14 +29,18 @@ fn pass_byte(p: Passed, x: u8) -> Passed
     ensures { result ≡ byte p x }
 {
     match p {
-        Passed::Whole(k) => begin(k, x),
-        Passed::Begun(k, m, e) => {
-            if m == 0 {
-                return Passed::Whole(e + 1);
+        Passed::Whole(end) => begin(end, x),
+        Passed::Begun { at, due, end } => {
+            if due == 0 {
+                return Passed::Whole(end + 1);
             }
-            Passed::Begun(k, m - 1, e + 1)
+            Passed::Begun {
+                at,
+                due: due - 1,
+                end: end + 1,
+            }
         }
-        Passed::Lost(k) => Passed::Lost(k),
+        Passed::Lost(_) => p,
     }
 }
 
@@ -45,10 +50,8 @@ pub fn pass_part(p: Passed, part: &[u8]) -> Passed
     ensures { result ≡ passed p part.now }
 {
     let mut now = p;
-    let mut at = 0;
-    while at < part.len() {
-        now = pass_byte(now, part[at]);
-        at += 1;
+    for x in part {
+        now = pass_byte(now, *x);
     }
     now
 }

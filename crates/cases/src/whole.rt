@@ -13,22 +13,27 @@ ghost use Rattle.cases.specs.Whole.{first, settled, CaseRan, TakenIs};
 ghost use Rattle.input.specs.Reading.{Lost};
 
 use crate::stream::{read_book, read_question};
-use crate::{Passed, Question, Taken};
-use book::Sort;
-use lines::least;
+use crate::{Case, Passed};
+use book::{Fault, Sort};
 use run::{Answer, Limits, Outcome};
 use std::io;
 use std::io::Read;
 
 // A question's fault: that of the first pass over all of it, if there is one.
 #[tactic(auto, unfolding(crate::specs::Whole::first, crate::specs::Parts::found, run::specs::Given::answer_is))]
-fn first_fault(p: Passed, w: Sort, at: usize) -> Answer
-    ensures { answer_is result ≡ first (found p) w at }
+fn first_fault(p: Passed, f: Fault) -> Answer
+    ensures { answer_is result ≡ first (found p) f.sort f.at }
 {
     match p {
-        Passed::Whole(_) => Answer::BadQuestion(w, at),
-        Passed::Begun(k, _, _) => Answer::BadQuestion(Sort::Cut, k),
-        Passed::Lost(k) => Answer::BadQuestion(Sort::Unknown, k),
+        Passed::Whole(_) => Answer::BadQuestion(f),
+        Passed::Begun { at, .. } => Answer::BadQuestion(Fault {
+            sort: Sort::Cut,
+            at,
+        }),
+        Passed::Lost(at) => Answer::BadQuestion(Fault {
+            sort: Sort::Unknown,
+            at,
+        }),
     }
 }
 
@@ -38,15 +43,8 @@ fn settle(a: Answer, p: Passed) -> Answer
     ensures { answer_is result ≡ settled (found p) (answer_is a) }
 {
     match a {
-        Answer::Emptied => a,
-        Answer::Spent => a,
-        Answer::NoNodes => a,
-        Answer::NoPlaces => a,
-        Answer::NoRoom => a,
-        Answer::BadLimits => a,
-        Answer::BadBook(_, _) => a,
-        Answer::BadQuestion(w, at) => first_fault(p, w, at),
-        Answer::LongCode => a,
+        Answer::BadQuestion(f) => first_fault(p, f),
+        _ => a,
     }
 }
 
@@ -63,17 +61,9 @@ pub fn run_case(
     ensures { CaseRan l book.now question.now p result work.old work.new code.old code.new results.old results.new }
 {
     let o = run::run(book, question, l, work, code, results);
-    let a = o.answer;
     Outcome {
-        answer: settle(a, p),
-        turns: o.turns,
-        nodes: o.nodes,
-        begun: o.begun,
-        split: o.split,
-        values: o.values,
-        failed: o.failed,
-        misfits: o.misfits,
-        written: o.written,
+        answer: settle(o.answer, p),
+        ..o
     }
 }
 
@@ -82,36 +72,38 @@ pub fn run_case(
 pub fn work_size(l: Limits) -> usize
     ensures { (l.nodes ≤ 16384) × (l.pool ≤ 1024) → result ≡ work_size (limits_of l) }
 {
-    40 * least(l.nodes, 16384) + 40 * least(l.pool, 1024) + 8192
+    40 * l.nodes.min(16384) + 40 * l.pool.min(1024) + 8192
 }
 
-// A case of these limits, with a book of b bytes and a question of q, read and run. An error is the reader's: nothing was run.
+// A case read and run; None where the stream ends inside it. An error is the reader's: nothing was run.
 pub fn take_case<R: Read>(
     input: &mut R,
-    l: Limits,
-    b: usize,
-    q: usize,
+    case: Case,
     book: &mut [u8],
     question: &mut [u8],
     work: &mut [u8],
     code: &mut [u8],
     results: &mut [u8],
-) -> io::Result<Taken>
-    requires { (32769 ≤ length book.old) × (771 ≤ length question.old) × (q < 4294967296) }
-    ensures taken { IfOk result (λ t. TakenIs l b q t work.old work.new code.old code.new results.old results.new) }
+) -> io::Result<Option<Outcome>>
+    requires { (32769 ≤ length book.old) × (771 ≤ length question.old) }
+    ensures taken { IfOk result (λ t. TakenIs case t work.old work.new code.old code.new results.old results.new) }
     ensures err { OnErr result ((work.new ≡ work.old) × (code.new ≡ code.old) × (results.new ≡ results.old)) }
     ensures lost { Lost (R.remaining input.old) (R.remaining input.new) }
 {
-    if !read_book(input, b, book)? {
-        return Ok(Taken::Cut);
+    if !read_book(input, case.book, book)? {
+        return Ok(None);
     }
-    let k = read_question(input, q, question)?;
-    match k {
-        Question::Kept(n, p) => {
-            let m = least(b, book.len());
-            let o = run_case(l, &book[..m], &question[..n], p, work, code, results);
-            Ok(Taken::Gave(o))
-        }
-        Question::Cut => Ok(Taken::Cut),
-    }
+    let Some(asked) = read_question(input, case.question, question)? else {
+        return Ok(None);
+    };
+    let m = case.book.min(book.len());
+    Ok(Some(run_case(
+        case.limits,
+        &book[..m],
+        &question[..asked.shown],
+        asked.pass,
+        work,
+        code,
+        results,
+    )))
 }

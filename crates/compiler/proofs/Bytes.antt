@@ -9,11 +9,11 @@ use lib.ListN.{length, get_or, drop, drop_of_length-le}
 use lib.Seq.{drop-cons}
 use lib.Dec.{ltb, leb, eqb}
 use borrow.Author.Tests.{leb-true, eqb-true}
+use Rattle.std.specs.Prelude.{Result, Ok, Err}
 use Rattle.book.specs.Syntax.{Terms, done, arg, Tree, Func, Book, con_arities, cons_of}
 use Rattle.book.specs.declared.Sort.{Sort}
-use Rattle.book.specs.declared.Rec.{Rec}
-use Rattle.book.specs.declared.Rec.TheVariants.{Of, Bad}
-use Rattle.book.specs.Record.{Got, got, fault, body_of, body_byte, rec_at, scan, book_fits, func_arities}
+use Rattle.book.specs.declared.Fault.{Fault}
+use Rattle.book.specs.Record.{Got, got, fault, Rec, body_of, body_byte, rec_at, scan, book_fits, func_arities}
 use Rattle.book.specs.Reading.{after, make, Case, pick, Names, Head, slot_case, read_head, first_terms, others_of, joined, read_terms, the_one, read_right, read_rights, Slots, under, read_trees, read_tree, read_cons, is_kind, read_types, read_funcs, read_book}
 use Rattle.book.specs.Accepted.{count}
 use Rattle.book.proofs.Fairness.{both_hold}
@@ -25,7 +25,11 @@ pub bytes-append : (a b : List Rcd) → bytes (a ++ b) ≡ bytes a ++ bytes b
 bytes-append [] b = refl
 bytes-append (r ∷ a) b = rw (bytes-append a b, append_assoc (bytes_of r) (bytes a) (bytes b))
 
--- what is known of a record that was read
+-- a record that was read
+abbrev read : ℕ → ℕ → ℕ → ℕ → Result Rec Fault
+read kind a b e = Ok (record { kind = kind; a = a; b = b; end = e })
+
+-- what is known of it
 record Is (s : List ℕ) (k kind a b e : ℕ) : Type 0 where
   body : ℕ
   known : body_of kind ≡ some body
@@ -35,9 +39,9 @@ record Is (s : List ℕ) (k kind a b e : ℕ) : Type 0 where
   next : e ≡ k + 1 + body
   within : k + 1 + body ≤ length s
 
-abbrev Known : List ℕ → ℕ → Rec → Type 0
-Known s k (Bad w) = Unit
-Known s k (Of kind a b e) = Is s k kind a b e
+abbrev Known : List ℕ → ℕ → Result Rec Fault → Type 0
+Known s k (Err f) = Unit
+Known s k (Ok r) = Is s k r.kind r.a r.b r.end
 
 rec-body : (s : List ℕ) (k : ℕ) → ltb k (length s) ≡ true → (m : Option ℕ) → body_of (get_or s k 0) ≡ m → Known s k (rec_at s k)
 unfolding rec_at
@@ -58,14 +62,14 @@ rec-known s k = go (ltb k (length s)) refl
     go true t = rec-body s k t (body_of (get_or s k 0)) refl
     go false t = rw (t, rec_at) tt
 
-rec-is : (s : List ℕ) (k : ℕ) {kind a b e : ℕ} → rec_at s k ≡ Of kind a b e → Is s k kind a b e
+rec-is : (s : List ℕ) (k : ℕ) {kind a b e : ℕ} → rec_at s k ≡ read kind a b e → Is s k kind a b e
 rec-is s k q = subst (Known s k) q (rec-known s k)
 
 the-some : {m n : ℕ} → some m ≡ some n → m ≡ n
 the-some q = cc
 
 -- a record without a body, with one byte, with two
-module _ (s : List ℕ) (k : ℕ) {kind a b e : ℕ} (q : rec_at s k ≡ Of kind a b e) where
+module _ (s : List ℕ) (k : ℕ) {kind a b e : ℕ} (q : rec_at s k ≡ read kind a b e) where
   rec-none : body_of kind ≡ some 0 → drop k s ≡ kind ∷ drop e s
   rec-none h =
       let r = rec-is s k q in
@@ -130,17 +134,17 @@ any (fault w p) = lost
 module _ {A : Type 0} (s : List ℕ) (k : ℕ) (P : A → ℕ → Type 0) where
   abbrev HoldCases : List (Case A) → Type 0
   HoldCases [] = Unit
-  HoldCases (c ∷ cases) = ((a b e : ℕ) → rec_at s k ≡ Of c.kind a b e → c.fits a b ≡ true → Holds P (c.read a b e)) × HoldCases cases
+  HoldCases (c ∷ cases) = ((a b e : ℕ) → rec_at s k ≡ read c.kind a b e → c.fits a b ≡ true → Holds P (c.read a b e)) × HoldCases cases
 
-  hold-pick : (cases : List (Case A)) → HoldCases cases → (r : Rec) → rec_at s k ≡ r → Holds P (pick cases k r)
+  hold-pick : (cases : List (Case A)) → HoldCases cases → (r : Result Rec Fault) → rec_at s k ≡ r → Holds P (pick cases k r)
   unfolding pick
-  hold-pick [] h (Bad w) q = lost
-  hold-pick (c ∷ cases) h (Bad w) q = lost
-  hold-pick [] h (Of kind a b e) q = lost
-  hold-pick (c ∷ cases) h (Of kind a b e) q = go (hold-pick cases h.1 (Of kind a b e) q) (eqb kind c.kind) refl (c.fits a b) refl
+  hold-pick [] h (Err f) q = lost
+  hold-pick (c ∷ cases) h (Err f) q = lost
+  hold-pick [] h (Ok r) q = lost
+  hold-pick (c ∷ cases) h (Ok r) q = go (hold-pick cases h.1 (Ok r) q) (eqb r.kind c.kind) refl (c.fits r.a r.b) refl
     where
-      go : Holds P (pick cases k (Of kind a b e)) → (t : Bool) → eqb kind c.kind ≡ t → (u : Bool) → c.fits a b ≡ u → Holds P (pick (c ∷ cases) k (Of kind a b e))
-      go ih true t true u = let z = eqb-true kind c.kind t in rw (t, pick, u) (h.0 a b e (q ∙ rw z) u)
+      go : Holds P (pick cases k (Ok r)) → (t : Bool) → eqb r.kind c.kind ≡ t → (u : Bool) → c.fits r.a r.b ≡ u → Holds P (pick (c ∷ cases) k (Ok r))
+      go ih true t true u = let z = eqb-true r.kind c.kind t in rw (t, pick, u) (h.0 r.a r.b r.end (q ∙ ap (λ (k : ℕ). read k r.a r.b r.end) z) u)
       go ih true t false u = rw (t, pick, u) lost
       go ih false t u v = rw (t, pick) ih
 
@@ -153,7 +157,7 @@ module _ (s : List ℕ) where
   chain {j} {k} {e} {x} {y} z p q r = record { is = p.is ∙ rw (q.is, r, append_assoc x y (drop e s)) }
 
   -- a record by itself
-  module _ (k : ℕ) (kind a : ℕ) {b e : ℕ} (q : rec_at s k ≡ Of kind a b e) where
+  module _ (k : ℕ) (kind a : ℕ) {b e : ℕ} (q : rec_at s k ≡ read kind a b e) where
     two-stand : body_of kind ≡ some 2 → Stand k (kind ∷ a ∷ b ∷ []) e
     two-stand h = record { is = rec-two s k q h }
 

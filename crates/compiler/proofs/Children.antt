@@ -15,6 +15,7 @@ use Rattle.book.specs.Accepted.{FineTrees}
 use Rattle.book.proofs.Fairness.{both_hold}
 use Rattle.engine.specs.Code.{Instr, four, encode, emit, go}
 use Rattle.engine.specs.Compile.{Positions, below, of_tree, of_trees, offsets, flat}
+use Rattle.compiler.specs.declared.Lore.{Lore}
 use Rattle.compiler.specs.Records.{bytes, tree_recs, trees_recs}
 use Rattle.compiler.specs.Rows.{Rows, Emits, Grown, Keeps}
 use Rattle.compiler.specs.Here.{TreeHere, TreeDone, TreesHere, TreesDone}
@@ -46,7 +47,7 @@ module _ (types : List (List ℕ)) (t : Tree) (ts : Trees) (a : ℕ) (more : Lis
   unfolding of_trees offsets emit encode
   gos-emit = refl
 
-module _ {s lore rows : List ℕ} {n i c m k g o : ℕ} {code : List ℕ} (x : TreesHere s lore rows n i c m k g o code) where
+module _ {s : List ℕ} {lore : Lore} {rows : List ℕ} {n i c m k g o : ℕ} {code : List ℕ} (x : TreesHere s lore rows n i c m k g o code) where
   -- none is left
   pub trees-none : m ≤ 0 → (r : Ends) → r.at ≡ k → r.out ≡ o → TreesDone x code r
   unfolding of_trees flat offsets emit
@@ -63,8 +64,7 @@ module _ {s lore rows : List ℕ} {n i c m k g o : ℕ} {code : List ℕ} (x : T
 
   -- the next one
   pub record NextIs (a : ℕ) : Type 0 where
-    pub go-room : g + 5 ≤ length code
-    pub grows : ((length rows ≡ 2304) × (i < 256) × (n + a ≤ 64)) × (((i < n) ⊎ (i ≡ 255)) × (get_or rows (9 * i) 0 < 8))
+    pub grows : ((i < 256) × (n + a ≤ 64)) × (((i < n) ⊎ (i ≡ 255)) × (get_or rows (9 * i) 0 < 8))
     pub inside : k + 1 ≤ length s
     pub tree : (code₁ rows₁ : List ℕ) (q : ℕ) → Emits code code₁ g q (0x32 ∷ four o) → Grown rows rows₁ i n a → TreeHere s lore rows₁ (n + a) k o code₁
     pub rest : (code₁ rows₁ code₂ rows₂ : List ℕ) (q : ℕ) (e : Ends) (p₁ : Emits code code₁ g q (0x32 ∷ four o)) (p₂ : Grown rows rows₁ i n a) → TreeDone (tree code₁ rows₁ q p₁ p₂) code₂ e → Keeps (n + a) rows₁ rows₂
@@ -153,7 +153,7 @@ module _ {s lore rows : List ℕ} {n i c m k g o : ℕ} {code : List ℕ} (x : T
         low : (j : ℕ) → get_or more j 0 ≤ 8
         low j = rw q at (x.low (suc j))
 
-        same : (j : ℕ) → j < m - 1 → get_or lore (c + 1 + j) 0 ≡ get_or more j 0
+        same : (j : ℕ) → j < m - 1 → get_or lore.cons (c + 1 + j) 0 ≡ get_or more j 0
         same j w = let z : c + 1 + j ≡ c + suc j = omega arith in rw z (rw q at (x.same (suc j) (omega arith)))
 
         abbrev rest-here : TreesHere s lore rows₂ n i (c + 1) (m - 1) e.at (g + 5) e.out code₂
@@ -182,9 +182,6 @@ module _ {s lore rows : List ℕ} {n i c m k g o : ℕ} {code : List ℕ} (x : T
           fits = rw D.out (omega (arith, x.fits, ap length blocks-are, length-append block (emit (flat rest-blocks)), code-long));
         }
 
-        goes_on : k < e.at
-        goes_on = omega (arith, D.at, a_byte t)
-
         done : (code₃ : List ℕ) (r : Ends) → TreesDone rest-here code₃ r → TreesDone x code₃ r
         done code₃ r Z =
             let E : e.out ≡ o + length block = D.out in
@@ -204,8 +201,7 @@ module _ {s lore rows : List ℕ} {n i c m k g o : ℕ} {code : List ℕ} (x : T
 
     next-made : NextIs a
     next-made = record {
-      go-room = omega (arith, x.before, x.fits, count);
-      grows = ((x.are.long, omega (arith, x.there, long, x.are.few), fit.0), (inl x.there, slot-byte));
+      grows = ((omega (arith, x.there, long, x.are.few), fit.0), (inl x.there, slot-byte));
       inside = omega (arith, ap length stands, length-append (bytes (tree_recs t)) (bytes (trees_recs ts) ++ x.rest), a_byte t, length-drop k s);
       tree = λ code₁ rows₁ q₁ P G. tree-here code₁ rows₁ q₁ P G;
       rest = λ code₁ rows₁ code₂ rows₂ q₁ e P G D K. rest-here code₁ rows₁ q₁ P G code₂ rows₂ e D K;
@@ -220,7 +216,7 @@ module _ {s lore rows : List ℕ} {n i c m k g o : ℕ} {code : List ℕ} (x : T
             let w : get_or rows (9 * i + 0) 0 < 8 = rw y slot-short in
             rw z at w
 
-  pub next-is : (a : ℕ) → a ≡ get_or lore c 0 → 0 < m → NextIs a
+  pub next-is : (a : ℕ) → a ≡ get_or lore.cons c 0 → 0 < m → NextIs a
   next-is a same h = at x.trees x.arities refl refl
     where
       at : (ts : Trees) (l : List ℕ) → x.trees ≡ ts → x.arities ≡ l → NextIs a
@@ -228,26 +224,30 @@ module _ {s lore rows : List ℕ} {n i c m k g o : ℕ} {code : List ℕ} (x : T
       at stop (b ∷ l) p q = absurd (subst (λ (l : List ℕ). FineTrees x.types x.funcs x.slots i stop l) q (subst (λ (t : Trees). FineTrees x.types x.funcs x.slots i t x.arities) p x.fine))
       at (child t ts) (b ∷ l) p q =
           let z : c + 0 ≡ c = omega arith in
-          let e : a ≡ b = same ∙ ap (λ (j : ℕ). get_or lore j 0) (sym z) ∙ (rw q at (x.same 0 (omega (arith, ap length q, x.count)))) in
+          let e : a ≡ b = same ∙ ap (λ (j : ℕ). get_or lore.cons j 0) (sym z) ∙ (rw q at (x.same 0 (omega (arith, ap length q, x.count)))) in
           next-made a t ts l p (q ∙ ap (λ (j : ℕ). j ∷ l) (sym e))
 
 pub keeps-refl : (n : ℕ) (rows : List ℕ) → Keeps n rows rows
 keeps-refl n rows = record { long = refl; same = λ i h. refl; empty = refl }
 
-pub tree-kept : {s lore rows : List ℕ} {n k o : ℕ} {code : List ℕ} (x : TreeHere s lore rows n k o code) {code' : List ℕ} {r : Ends} → TreeDone x code' r → length code' ≡ length code
+pub tree-kept : {s : List ℕ} {lore : Lore} {rows : List ℕ} {n k o : ℕ} {code : List ℕ} (x : TreeHere s lore rows n k o code) {code' : List ℕ} {r : Ends} → TreeDone x code' r → length code' ≡ length code
 tree-kept x d = ap length d.is ∙ simp length-sets
 
 -- On the way over the children: the code keeps its length, the rows keep what they had, and what is done of those still due is done of all.
-pub record Onward (s lore rows₀ : List ℕ) (n i c₀ m₀ k₀ g₀ o₀ : ℕ) (code₀ rows : List ℕ) (c m k g o : ℕ) (code : List ℕ) : Type 0 where
+pub record Onward (s : List ℕ) (lore : Lore) (rows₀ : List ℕ) (n i c₀ m₀ k₀ g₀ o₀ : ℕ) (code₀ rows : List ℕ) (c m k g o : ℕ) (code : List ℕ) : Type 0 where
   pub past : k₀ ≤ k
   pub long : length code ≡ length code₀
   pub kept : Keeps n rows₀ rows
   pub due : (x : TreesHere s lore rows₀ n i c₀ m₀ k₀ g₀ o₀ code₀) → (y : TreesHere s lore rows n i c m k g o code) × ((code' : List ℕ) (r : Ends) → TreesDone y code' r → TreesDone x code' r)
 
-pub onward-start : (s lore rows : List ℕ) (n i c m k g o : ℕ) (code : List ℕ) → Onward s lore rows n i c m k g o code rows c m k g o code
+pub onward-start : (s : List ℕ) (lore : Lore) (rows : List ℕ) (n i c m k g o : ℕ) (code : List ℕ) → Onward s lore rows n i c m k g o code rows c m k g o code
 onward-start s lore rows n i c m k g o code = record { past = omega arith; long = refl; kept = keeps-refl n rows; due = λ x. (x, λ code' r d. d) }
 
-module _ {s lore rows₀ : List ℕ} {n i c₀ m₀ k₀ g₀ o₀ : ℕ} {code₀ rows : List ℕ} {c m k g o : ℕ} {code : List ℕ} (w : Onward s lore rows₀ n i c₀ m₀ k₀ g₀ o₀ code₀ rows c m k g o code) (x : TreesHere s lore rows₀ n i c₀ m₀ k₀ g₀ o₀ code₀) where
+pub onward-as : {s : List ℕ} {lore : Lore} {rows₀ : List ℕ} {n i c₀ m₀ k₀ g₀ o₀ : ℕ} {code₀ rows : List ℕ} {c m k g o : ℕ} {code : List ℕ} → Onward s lore rows₀ n i c₀ m₀ k₀ g₀ o₀ code₀ rows c m k g o code → (c' m' g' : ℕ) → c ≡ c' → m ≡ m' → g ≡ g'
+    → Onward s lore rows₀ n i c₀ m₀ k₀ g₀ o₀ code₀ rows c' m' k g' o code
+onward-as w c' m' g' p q r = rw (← p, ← q, ← r) w
+
+module _ {s : List ℕ} {lore : Lore} {rows₀ : List ℕ} {n i c₀ m₀ k₀ g₀ o₀ : ℕ} {code₀ rows : List ℕ} {c m k g o : ℕ} {code : List ℕ} (w : Onward s lore rows₀ n i c₀ m₀ k₀ g₀ o₀ code₀ rows c m k g o code) (x : TreesHere s lore rows₀ n i c₀ m₀ k₀ g₀ o₀ code₀) where
   -- the children still due
   abbrev pub still : TreesHere s lore rows n i c m k g o code
   still = (w.due x).0
@@ -255,7 +255,7 @@ module _ {s lore rows₀ : List ℕ} {n i c₀ m₀ k₀ g₀ o₀ : ℕ} {code�
   pub onward-end : m ≤ 0 → TreesDone x code (record { at = k; out = o })
   onward-end h = (w.due x).1 code _ (trees-none still h _ refl refl)
 
-  module _ {a : ℕ} (same : a ≡ get_or lore c 0) (h : 0 < m) where
+  module _ {a : ℕ} (same : a ≡ get_or lore.cons c 0) (h : 0 < m) where
     -- the first of them
     pub child-is : NextIs still a
     child-is = next-is still a same h
@@ -268,8 +268,8 @@ module _ {s lore rows₀ : List ℕ} {n i c₀ m₀ k₀ g₀ o₀ : ℕ} {code�
       long = tree-kept (child-is.tree code₁ rows₁ q p₁ p₂) (d _) ∙ emits-long p₁ ∙ w.long;
       kept = record {
         long = p₄.long ∙ p₂.long ∙ w.kept.long;
-        same = λ j l. p₄.same j (omega arith) ∙ p₂.same j (omega (arith, child-is.grows.0.2)) (inl l) ∙ w.kept.same j l;
-        empty = p₄.empty ∙ p₂.same 255 (omega arith) (inr (omega (arith, child-is.grows.0.2))) ∙ w.kept.empty;
+        same = λ j l. p₄.same j (omega arith) ∙ p₂.same j (omega (arith, child-is.grows.0.1)) (inl l) ∙ w.kept.same j l;
+        empty = p₄.empty ∙ p₂.same 255 (omega arith) (inr (omega (arith, child-is.grows.0.1))) ∙ w.kept.empty;
       };
       due = λ y. (let f = next-is (w.due y).0 a same h in (f.rest code₁ rows₁ code₂ rows₂ q e p₁ p₂ (d _) p₄, λ code' r z. (w.due y).1 code' r (f.finish code₁ rows₁ code₂ rows₂ code' q e r p₁ p₂ (d _) p₄ z)));
     }

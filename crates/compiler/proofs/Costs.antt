@@ -1,98 +1,50 @@
 -- What each record of the book brings of code, as the lore gives it, and the walk over all of them.
-use Prim.Native.Nat.{ℕ, suc, ◌+◌, ◌-◌, ◌*◌, ◌≤◌, ◌<◌}
+use Prim.Native.Nat.{ℕ, ◌+◌, ◌≤◌, ◌<◌}
 use native.Mathlib.Nat.{add-zero, zero-add}
-use native.Mathlib.Numerals.{add-one}
 use native.Mathlib.Omega.{arith}
 use mathlib.Core.Path.{◌≡◌, refl, ap, sym, ◌∙◌, subst}
 use mathlib.Core.List.{List, [], ◌∷◌, ◌++◌, map}
-use lib.ListN.{length, get_or, take, drop, length-append, length-drop, drop_of_length-le}
-use lib.Seq.{drop-cons}
-use borrow.Author.Tests.{eq-eqb, ne_eqb, lt-ltb, le-ltb}
+use lib.ListN.{length, get_or, drop, length-append, length-drop, drop_of_length-le}
+use borrow.Author.Tests.{ne_eqb, lt-ltb, le-ltb}
 use Rattle.book.specs.Syntax.{con, fun, Term, Terms, app, slot, fresh, done, arg, Right, Tree, Trees, split, rule, norule, stop, child, Func, arity, Book, cons_of}
 use Rattle.book.specs.Accepted.{FineTree, FineTrees, FineBook}
 use Rattle.book.proofs.Acceptance.{book-fine, book-short}
 use Rattle.engine.specs.Compile.{compile}
-use Rattle.compiler.specs.Records.{Rcd, a_type, a_cons, a_func, a_split, a_rule, a_right, a_symbol, a_slot, a_fresh, a_none, bytes_of, bytes, term_recs, terms_recs, rights_recs, tree_recs, trees_recs, funcs_recs, types_recs, book_recs, arm_cost, cost, costs}
+use Rattle.compiler.specs.declared.Lore.{Lore}
+use Rattle.compiler.specs.Records.{Rcd, a_type, a_cons, a_func, a_split, a_rule, a_right, a_symbol, a_slot, a_fresh, a_none, bytes_of, bytes, term_recs, terms_recs, rights_recs, tree_recs, trees_recs, funcs_recs, types_recs, book_recs, cost, costs}
 use Rattle.compiler.specs.Rows.{width_at, arm_at, split_at, cost_at}
 use Rattle.compiler.specs.Here.{FineRcd, RcdHere, Surveyed}
 use Rattle.compiler.proofs.Bytes.{book-bytes}
 use Rattle.compiler.proofs.Terms.{head-is, two-are, skipped}
-use Rattle.compiler.proofs.Splits.{lore-part}
+use Rattle.compiler.proofs.Splits.{first_fits, lore-part}
 use Rattle.compiler.proofs.Lengths.{code-cost, fine-all, FineAll}
 
-pub arm_more : (lore : List ℕ) (c n : ℕ) → 0 < n → c + n ≤ length lore → arm_at lore c n ≡ get_or lore c 0 + 3 + arm_at lore (c + 1) (n - 1)
-unfolding arm_at
-arm_more lore c n h q =
-    let e : n ≡ suc (n - 1) = omega arith in
-    let d : drop c lore ≡ get_or lore c 0 ∷ drop (suc c) lore = drop-cons lore c 0 (omega arith) in
-    ap (λ (k : ℕ). arm_cost (take k (drop c lore))) e ∙ rw (d, add-one c)
-
-pub arm_end : (lore : List ℕ) (c n : ℕ) → n ≤ 0 → arm_at lore c n ≡ 1
-unfolding arm_at
-arm_end lore c n h = let e : n ≡ 0 = omega arith in rw e
-
-pub split_at_lem : (lore : List ℕ) (t i c m a : ℕ) → i ≡ t → c ≡ get_or lore (512 + i) 0 → m ≡ get_or lore (576 + i) 0 → a ≡ arm_at lore c m → 12 + 5 * (m + 1) + a ≡ split_at lore t
-unfolding split_at
-split_at_lem lore t i c m a p q r s = rw (s, q, r, p)
+pub cost-rule : (n : ℕ) → (n ≡ 1 → ⊥) → cost_at 5 n ≡ 1
+unfolding cost_at
+cost-rule n h = rw (cost_at, ne_eqb n 1 h)
 
 module _ (kind n : ℕ) where
-  pub cost-rule-one : kind ≡ 5 → n ≡ 1 → cost_at kind n ≡ 2
+  pub cost-front : kind < 5 → cost_at kind n ≡ 0
   unfolding cost_at
-  cost-rule-one p q = rw (eq-eqb kind 5 p, cost_at, eq-eqb n 1 q)
+  cost-front v = rw (ne_eqb kind 5 (λ z. omega arith), cost_at, ne_eqb kind 6 (λ z. omega arith), ne_eqb kind 9 (λ z. omega arith), ne_eqb kind 10 (λ z. omega arith), ne_eqb kind 11 (λ z. omega arith), lt-ltb kind 7 (omega arith))
 
-  pub cost-rule-more : kind ≡ 5 → (n ≡ 1 → ⊥) → cost_at kind n ≡ 1
+  pub cost-symbol : 7 ≤ kind → (kind ≡ 9 → ⊥) → (kind ≡ 10 → ⊥) → (kind ≡ 11 → ⊥) → cost_at kind n ≡ 3
   unfolding cost_at
-  cost-rule-more p q = rw (eq-eqb kind 5 p, cost_at, ne_eqb n 1 q)
-
-  pub cost-right : (kind ≡ 5 → ⊥) → kind ≡ 6 → cost_at kind n ≡ 2 * n
-  unfolding cost_at
-  cost-right p q = rw (ne_eqb kind 5 p, cost_at, eq-eqb kind 6 q)
-
-  module _ (p : kind ≡ 5 → ⊥) (q : kind ≡ 6 → ⊥) where
-    pub cost-slot : kind ≡ 9 → cost_at kind n ≡ 11
-    unfolding cost_at
-    cost-slot r = rw (ne_eqb kind 5 p, cost_at, ne_eqb kind 6 q, eq-eqb kind 9 r)
-
-    module _ (r : kind ≡ 9 → ⊥) where
-      pub cost-fresh : kind ≡ 10 → cost_at kind n ≡ 2
-      unfolding cost_at
-      cost-fresh s = rw (ne_eqb kind 5 p, cost_at, ne_eqb kind 6 q, ne_eqb kind 9 r, eq-eqb kind 10 s)
-
-      module _ (s : kind ≡ 10 → ⊥) where
-        pub cost-none : kind ≡ 11 → cost_at kind n ≡ 1
-        unfolding cost_at
-        cost-none u = rw (ne_eqb kind 5 p, cost_at, ne_eqb kind 6 q, ne_eqb kind 9 r, ne_eqb kind 10 s, eq-eqb kind 11 u)
-
-        module _ (u : kind ≡ 11 → ⊥) where
-          pub cost-front : kind < 7 → cost_at kind n ≡ 0
-          unfolding cost_at
-          cost-front v = rw (ne_eqb kind 5 p, cost_at, ne_eqb kind 6 q, ne_eqb kind 9 r, ne_eqb kind 10 s, ne_eqb kind 11 u, lt-ltb kind 7 v)
-
-          pub cost-symbol : 7 ≤ kind → cost_at kind n ≡ 3
-          unfolding cost_at
-          cost-symbol v = rw (ne_eqb kind 5 p, cost_at, ne_eqb kind 6 q, ne_eqb kind 9 r, ne_eqb kind 10 s, ne_eqb kind 11 u, le-ltb kind 7 v)
-
-pub width-split : (kind : ℕ) → kind ≡ 4 → width_at kind ≡ 3
-unfolding width_at
-width-split kind p = rw (eq-eqb kind 4 p, width_at)
-
-pub width-none : (kind : ℕ) → (kind ≡ 4 → ⊥) → kind ≡ 11 → width_at kind ≡ 1
-unfolding width_at
-width-none kind p q = rw (ne_eqb kind 4 p, width_at, eq-eqb kind 11 q)
+  cost-symbol v r s u = rw (ne_eqb kind 5 (λ z. omega arith), cost_at, ne_eqb kind 6 (λ z. omega arith), ne_eqb kind 9 r, ne_eqb kind 10 s, ne_eqb kind 11 u, le-ltb kind 7 v)
 
 pub width_two : (kind : ℕ) → (kind ≡ 4 → ⊥) → (kind ≡ 11 → ⊥) → width_at kind ≡ 2
 unfolding width_at
 width_two kind p q = rw (ne_eqb kind 4 p, width_at, ne_eqb kind 11 q)
 
 -- the record at a place, by its kind
-pub record Kinds (s lore : List ℕ) (k : ℕ) (types : List (List ℕ)) (r : Rcd) : Type 0 where
+pub record Kinds (s : List ℕ) (lore : Lore) (k : ℕ) (types : List (List ℕ)) (r : Rcd) : Type 0 where
   pub one : k + 1 ≤ length s
-  pub split : get_or s k 0 ≡ 4 → (k + 3 ≤ length s) × (get_or s (k + 2) 0 < 64) × (split_at lore (get_or s (k + 2) 0) ≡ cost types r)
+  pub split : get_or s k 0 ≡ 4 → (k + 3 ≤ length s) × (get_or s (k + 2) 0 < 64) × (split_at lore (get_or s (k + 2) 0) ≡ cost types r) × (get_or lore.firsts (get_or s (k + 2) 0) 0 + get_or lore.counts (get_or s (k + 2) 0) 0 ≤ 256)
   pub none : get_or s k 0 ≡ 11 → 1 ≡ cost types r
   pub other : (get_or s k 0 ≡ 4 → ⊥) → (get_or s k 0 ≡ 11 → ⊥) → (k + 2 ≤ length s) × (cost_at (get_or s k 0) (get_or s (k + 1) 0) ≡ cost types r)
   pub wide : width_at (get_or s k 0) ≡ length (bytes_of r)
 
-module _ {s lore : List ℕ} {k : ℕ} (x : RcdHere s lore k) where
+module _ {s : List ℕ} {lore : Lore} {k : ℕ} (x : RcdHere s lore k) where
   two-kinds : (kind n : ℕ) → drop k s ≡ kind ∷ n ∷ x.rest → (kind ≡ 4 → ⊥) → (kind ≡ 11 → ⊥) → cost_at kind n ≡ cost x.types x.rcd → 2 ≡ length (bytes_of x.rcd) → Kinds s lore k x.types x.rcd
   two-kinds kind n h f g e l =
       let w = two-are s k kind n x.rest h in
@@ -105,7 +57,7 @@ module _ {s lore : List ℕ} {k : ℕ} (x : RcdHere s lore k) where
       }
 
   none-kinds : x.rcd ≡ a_none → Kinds s lore k x.types x.rcd
-  unfolding cost
+  unfolding cost width_at
   none-kinds q =
       let h = head-is s k 11 x.rest (x.is ∙ ap (λ (r : Rcd). bytes_of r ++ x.rest) q) in
       record {
@@ -113,11 +65,11 @@ module _ {s lore : List ℕ} {k : ℕ} (x : RcdHere s lore k) where
         split = λ z. absurd (omega (arith, h.0));
         none = λ z. rw q refl;
         other = λ p r. absurd (r h.0);
-        wide = ap width_at h.0 ∙ width-none 11 (λ z. omega arith) refl ∙ ap (λ (r : Rcd). length (bytes_of r)) (sym q);
+        wide = ap width_at h.0 ∙ ap (λ (r : Rcd). length (bytes_of r)) (sym q);
       }
 
   split-kinds : (i t : ℕ) → x.rcd ≡ a_split i t → Kinds s lore k x.types x.rcd
-  unfolding cost split_at arm_at
+  unfolding cost split_at arm_at width_at
   split-kinds i t q =
       let w = two-are s k 4 i (t ∷ x.rest) (x.is ∙ ap (λ (r : Rcd). bytes_of r ++ x.rest) q) in
       let h = head-is s (k + 2) t x.rest w.rest in
@@ -125,10 +77,10 @@ module _ {s lore : List ℕ} {k : ℕ} (x : RcdHere s lore k) where
       let e : k + 3 ≡ k + 2 + 1 = omega arith in
       record {
         one = omega (arith, w.inside);
-        split = λ z. (omega (arith, h.1), omega (arith, h.0, x.told.fine.few), rw (h.0, q, x.told.counts t f, x.told.firsts t f, lore-part x.types x.funcs lore x.told t f) (omega arith));
+        split = λ z. (omega (arith, h.1), omega (arith, h.0, x.told.fine.few), rw (h.0, q, x.told.counts t f, x.told.firsts t f, lore-part x.types x.funcs lore x.told t f) (omega arith), rw (h.0, x.told.firsts t f, x.told.counts t f) (omega (arith, first_fits x.types t f, x.told.fine.cons)));
         none = λ z. absurd (omega (arith, w.first));
         other = λ p r. absurd (p w.first);
-        wide = ap width_at w.first ∙ width-split 4 refl ∙ ap (λ (r : Rcd). length (bytes_of r)) (sym q);
+        wide = ap width_at w.first ∙ ap (λ (r : Rcd). length (bytes_of r)) (sym q);
       }
 
   pub kinds : Kinds s lore k x.types x.rcd
@@ -208,7 +160,7 @@ book-all book f =
     (funcs-all book.types (map arity book.funcs) book.funcs (fine-all book.types (map arity book.funcs) book.funcs f.funcs))
 
 -- the walk over the records
-module _ {s lore : List ℕ} (x : Surveyed s lore) where
+module _ {s : List ℕ} {lore : Lore} (x : Surveyed s lore) where
   pub record Ahead (at sum : ℕ) : Type 0 where
     pub rcds : List Rcd
     pub is : drop at s ≡ bytes rcds

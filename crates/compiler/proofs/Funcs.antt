@@ -1,73 +1,37 @@
 -- The lore gathered, the starts noted, and the functions compiled one after the other.
 use Prim.Native.Nat.{ℕ, suc, ◌+◌, ◌-◌, ◌*◌, ◌/◌, ◌%◌, ◌≤◌, ◌<◌}
 use native.Mathlib.Nat.{zero-add, add_comm, mul_comm, div-add-mod'}
-use native.Mathlib.Numerals.{add-one}
 use native.Mathlib.Omega.{arith}
 use mathlib.Core.Path.{◌≡◌, refl, ap, sym, ◌∙◌, subst}
 use mathlib.Core.Bool.{Bool, true, false}
 use mathlib.Core.Logic.{◌⊎◌, inr}
 use mathlib.Core.List.{List, [], ◌∷◌, ◌++◌, append_assoc, map}
-use lib.ListN.{length, get_or, take, drop, set, replicate, length-append, length-drop, length-set, length-replicate, get_or-replicate, get_or-eq_default, drop_of_length-le}
-use lib.Seq.{sets, take-suc, take_all, length-take-le, get_or-set_same, get_or-set_other, get_or_at}
+use lib.ListN.{length, get_or, take, drop, replicate, length-append, length-drop, length-replicate, get_or-replicate, get_or-eq_default, drop_of_length-le}
+use lib.Seq.{take_all, get_or-set_same, get_or-set_other, get_or_at}
 use lib.Dec.{ltb, eqb}
 use borrow.Author.Tests.{ltb-true, ltb-false, eqb-true, eqb-false}
 use Rattle.mem.specs.Words.{Wrote}
 use Rattle.book.specs.Syntax.{Func, arity, cons_of, first_con}
-use Rattle.book.specs.Steps.{types_of}
 use Rattle.book.specs.Accepted.{FineTypes, FineBook}
 use Rattle.book.proofs.Acceptance.{book-fine}
 use Rattle.heap.specs.Build.{up_from}
 use Rattle.engine.specs.Code.{Instr, emit}
 use Rattle.engine.specs.Compile.{of_tree, of_funcs, offsets, flat, compile}
+use Rattle.compiler.specs.declared.Lore.{Lore}
 use Rattle.compiler.specs.Records.{bytes, tree_recs, funcs_recs, types_recs}
 use Rattle.compiler.specs.Rows.{Rows, Keeps, Grown, row, load_body, Progress, Emits}
-use Rattle.compiler.specs.Here.{Match, TreeHere, TreeDone, TypesNoted, start_at, Started, FuncsHere, FuncsDone}
+use Rattle.compiler.specs.Here.{Match, TreeHere, TreeDone, start_at, Started, FuncsHere, FuncsDone}
 use Rattle.compiler.specs.declared.Ends.{Ends}
 use Rattle.compiler.proofs.Bytes.{bytes-append, book-bytes}
-use Rattle.compiler.proofs.Writing.{sets-append, progress_start, progress_step, progress-stop, progress-room}
+use Rattle.compiler.proofs.Writing.{progress_start, progress_step, progress-stop, progress-room}
 use Rattle.compiler.proofs.Loops.{row_at}
 use Rattle.compiler.proofs.Terms.{two-are, skipped, emit-append}
 use Rattle.compiler.proofs.Rowing.{apart, rows_grown, steps-at, steps-long}
 use Rattle.compiler.proofs.Splits.{first_fits}
 use Rattle.compiler.proofs.Lengths.{FineAll, fine-all}
 
-pub copy_step : (src dst : List ℕ) (at j : ℕ) → j < length src → set (sets dst at (take j src)) (at + j) (get_or src j 0) ≡ sets dst at (take (j + 1) src)
-copy_step src dst at j h =
-    let a : take (suc j) src ≡ take j src ++ (get_or src j 0 ∷ []) = take-suc src j 0 h in
-    let b : length (take j src) ≡ j = length-take-le j src (omega arith) in
-    rw (add-one j, a, sets-append dst at (take j src) (get_or src j 0 ∷ []), b)
-
 pub part-all : (s : List ℕ) (k : ℕ) → take (length s - k) (drop k s) ≡ drop k s
 part-all s k = take_all (length s - k) (drop k s) (omega (arith, length-drop k s))
-
--- types noted one by one
-pub noted-start : (s lore : List ℕ) → TypesNoted s lore lore 0
-noted-start s lore = record { long = refl; firsts = λ t h. absurd (omega arith); counts = λ t h. absurd (omega arith); same = λ i h. refl }
-
-pub noted_step : (s lore lore' : List ℕ) (t first count : ℕ) → TypesNoted s lore lore' t → length lore ≡ 640 → t < 64 → first ≡ first_con (types_of s) t → count ≡ length (cons_of (types_of s) t)
-    → TypesNoted s lore (set (set lore' (512 + t) first) (576 + t) count) (t + 1)
-noted_step s lore lore' t first count n long h p q = record {
-  long = length-set (set lore' (512 + t) first) (576 + t) count ∙ length-set lore' (512 + t) first ∙ n.long;
-  firsts = λ u v. at_first u (eqb u t) refl v;
-  counts = λ u v. at_count u (eqb u t) refl v;
-  same = λ i v. get_or-set_other (set lore' (512 + t) first) (576 + t) i count 0 (λ z. omega arith) ∙ get_or-set_other lore' (512 + t) i first 0 (λ z. omega arith) ∙ n.same i v;
-}
-  where
-    at_first : (u : ℕ) (b : Bool) → eqb u t ≡ b → u < t + 1 → get_or (set (set lore' (512 + t) first) (576 + t) count) (512 + u) 0 ≡ first_con (types_of s) u
-    at_first u true z v =
-        let e = eqb-true u t z in
-        get_or-set_other (set lore' (512 + t) first) (576 + t) (512 + u) count 0 (λ w. omega arith) ∙ rw e (get_or-set_same lore' (512 + t) first 0 (omega (arith, n.long)) ∙ p)
-    at_first u false z v =
-        let e = eqb-false u t z in
-        let l : u < t = apart u t (omega arith) e in
-        get_or-set_other (set lore' (512 + t) first) (576 + t) (512 + u) count 0 (λ w. omega arith) ∙ get_or-set_other lore' (512 + t) (512 + u) first 0 (λ w. omega arith) ∙ n.firsts u l
-
-    at_count : (u : ℕ) (b : Bool) → eqb u t ≡ b → u < t + 1 → get_or (set (set lore' (512 + t) first) (576 + t) count) (576 + u) 0 ≡ length (cons_of (types_of s) u)
-    at_count u true z v = let e = eqb-true u t z in rw e (get_or-set_same (set lore' (512 + t) first) (576 + t) count 0 (omega (arith, length-set lore' (512 + t) first, n.long)) ∙ q)
-    at_count u false z v =
-        let e = eqb-false u t z in
-        let l : u < t = apart u t (omega arith) e in
-        get_or-set_other (set lore' (512 + t) first) (576 + t) (576 + u) count 0 (λ w. omega arith) ∙ get_or-set_other lore' (512 + t) (576 + u) first 0 (λ w. omega arith) ∙ n.counts u l
 
 pub types-small : (types : List (List ℕ)) → FineTypes types → (t : ℕ) → t < length types → (first_con types t < 256) × (length (cons_of types t) < 256)
 types-small types f t h = let a = first_fits types t h in let b = f.each t h in (omega (arith, f.cons), omega arith)
@@ -95,7 +59,7 @@ arguments-match a = record { long = steps-long [] 1 a ∙ sym (length-replicate 
     at i true t h = let l = ltb-true i a t in rw (steps-at [] 1 a i l, get_or-replicate {A = ℕ} a i 1 8 l)
     at i false t h = absurd (omega (arith, rw (get_or-eq_default {A = ℕ} (replicate a 1) 8 {n = i} (omega (arith, length-replicate {A = ℕ} a 1, ltb-false i a t))) at h))
 
-module _ {s lore rows₀ w₀ : List ℕ} {from : ℕ} {code₀ : List ℕ} (x : FuncsHere s lore rows₀ w₀ from code₀) where
+module _ {s : List ℕ} {lore : Lore} {rows₀ w₀ : List ℕ} {from : ℕ} {code₀ : List ℕ} (x : FuncsHere s lore rows₀ w₀ from code₀) where
   abbrev types : List (List ℕ)
   types = x.book.types
 
@@ -157,7 +121,7 @@ module _ {s lore rows₀ w₀ : List ℕ} {from : ℕ} {code₀ : List ℕ} (x :
     pub record Turn (a : ℕ) : Type 0 where
       pub inside : at + 2 ≤ length s
       pub starting : (f < 256) × (out ≤ 262144) × (512 ≤ length w)
-      pub grows : ((length rows ≡ 2304) × (255 < 256) × (0 + a ≤ 64)) × (((255 < 0) ⊎ (◌≡◌ {A = ℕ} 255 255)) × (get_or rows (9 * 255) 0 < 8))
+      pub grows : ((255 < 256) × (0 + a ≤ 64)) × (((255 < 0) ⊎ (◌≡◌ {A = ℕ} 255 255)) × (get_or rows (9 * 255) 0 < 8))
       pub tree : (part rows₁ : List ℕ) → part ≡ drop (at + 2) s → Grown rows rows₁ 255 0 a → TreeHere part lore rows₁ a 0 out code
       pub inside_too : (part rows₁ code₂ : List ℕ) (p : part ≡ drop (at + 2) s) (g : Grown rows rows₁ 255 0 a) (e : Ends) → TreeDone (tree part rows₁ p g) code₂ e → at + 2 + e.at ≤ length s
       pub next : (part rows₁ rows₂ w₁ code₂ : List ℕ) (p : part ≡ drop (at + 2) s) (g : Grown rows rows₁ 255 0 a) (e : Ends) → TreeDone (tree part rows₁ p g) code₂ e → Keeps a rows₁ rows₂ → Started w w₁ f out → Left rows₂ w₁ code₂ (at + 2 + e.at) e.out (f + 1)
@@ -245,7 +209,7 @@ module _ {s lore rows₀ w₀ : List ℕ} {from : ℕ} {code₀ : List ℕ} (x :
       made = record {
         inside = inside;
         starting = (omega (arith, count, fine.few), low, omega (arith, d.long, x.wide));
-        grows = ((d.rows_long, omega arith, omega (arith, fine-are.0.0)), (inr refl, empty-first));
+        grows = ((omega arith, omega (arith, fine-are.0.0)), (inr refl, empty-first));
         tree = λ part rows₁ q G. tree-here part rows₁ q G;
         inside_too = λ part rows₁ code₂ q G e D. past part rows₁ q G code₂ e D;
         next = λ part rows₁ rows₂ w₁ code₂ q G e D K S. next-left part rows₁ q G code₂ e D rows₂ w₁ K S;

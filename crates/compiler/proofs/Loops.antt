@@ -4,11 +4,12 @@ use native.Mathlib.Numerals.{add-one}
 use native.Mathlib.Omega.{arith}
 use mathlib.Core.Path.{◌≡◌, refl, ap, ◌∙◌}
 use mathlib.Core.List.{List, [], ◌∷◌, ◌++◌, append_assoc, append-nil}
-use lib.ListN.{length, get_or, take, drop, set, length-append, length-drop, length-replicate, replicate}
-use lib.Seq.{sets, length-sets, take-length, take-suc, get_or-drop, get_or-take, drop-cons, length-take-le}
-use borrow.Author.Tests.{eq-eqb, ne_eqb}
+use lib.ListN.{length, get_or, take, drop, length-append, length-drop, length-replicate, replicate}
+use lib.Seq.{length-sets, get_or-drop, get_or-take, drop-cons, length-take-le}
+use borrow.Author.Tests.{ne_eqb}
+use Rattle.compiler.specs.declared.Lore.{Lore}
 use Rattle.compiler.specs.Rows.{Progress, row, num_code, back, vars_code, arm_code, args_at}
-use Rattle.compiler.proofs.Writing.{sets-append, progress-room}
+use Rattle.compiler.proofs.Writing.{progress-room}
 
 pub row-long : (rows : List ℕ) (i : ℕ) → length rows ≡ 2304 → i < 256 → length (row rows i) ≡ 9
 unfolding row
@@ -18,25 +19,9 @@ pub row_at : (rows : List ℕ) (i j : ℕ) → j < 9 → get_or (row rows i) j 0
 unfolding row
 row_at rows i j r = get_or-take 9 (drop (9 * i) rows) j 0 r ∙ get_or-drop (9 * i) rows j 0
 
-pub row_step : (rows : List ℕ) (i : ℕ) (l : List ℕ) (o j : ℕ) → length rows ≡ 2304 → i < 256 → j < 9
-    → set (sets l o (take j (row rows i))) (o + j) (get_or rows (9 * i + j) 0) ≡ sets l o (take (j + 1) (row rows i))
-row_step rows i l o j h q r =
-    let n : length (row rows i) ≡ 9 = row-long rows i h q in
-    let a : take (suc j) (row rows i) ≡ take j (row rows i) ++ (get_or (row rows i) j 0 ∷ []) = take-suc (row rows i) j 0 (omega arith) in
-    let b : length (take j (row rows i)) ≡ j = length-take-le j (row rows i) (omega arith) in
-    rw (add-one j, a, sets-append l o (take j (row rows i)) (get_or (row rows i) j 0 ∷ []), b, row_at rows i j r)
-
-pub row-all : (rows : List ℕ) (i j : ℕ) → length rows ≡ 2304 → i < 256 → j ≤ 9 → 9 ≤ j → take j (row rows i) ≡ row rows i
-row-all rows i j h q r u =
-    let n : length (row rows i) ≡ 9 = row-long rows i h q in
-    let e : j ≡ length (row rows i) = omega arith in
-    rw e (take-length (row rows i))
-
-pub more : (x n : ℕ) → 0 < n → replicate n x ≡ x ∷ replicate (n - 1) x
-more x n h = let e : n ≡ suc (n - 1) = omega arith in ap (λ (k : ℕ). replicate k x) e
-
-pub none_left : (x n : ℕ) → n ≤ 0 → replicate n x ≡ []
-none_left x n h = let e : n ≡ 0 = omega arith in rw e
+pub row-part : (rows : List ℕ) (i : ℕ) → take (9 * i + 9 - 9 * i) (drop (9 * i) rows) ≡ row rows i
+unfolding row
+row-part rows i = let e : 9 * i + 9 - 9 * i ≡ 9 = omega arith in rw e
 
 pub instance-long : (n x : ℕ) (y : List ℕ) → length (replicate n x ++ y) ≡ n + length y
 instance-long n x y = length-append (replicate n x) y ∙ rw (length-replicate n x)
@@ -50,35 +35,35 @@ pub vars-more : (n : ℕ) → vars_code n ++ 0x36 ∷ n ∷ [] ≡ vars_code (n 
 unfolding vars_code
 vars-more n = rw (add-one n, vars_code)
 
-module _ (lore : List ℕ) (kind n : ℕ) where
-  pub args-con : kind ≡ 7 → args_at lore kind n ≡ get_or lore n 0
+module _ (lore : Lore) (n : ℕ) where
+  pub args-con : args_at lore 7 n ≡ get_or lore.cons n 0
   unfolding args_at
-  args-con h = rw (eq-eqb kind 7 h, args_at)
+  args-con = refl
 
-  pub args-fun : (kind ≡ 7 → ⊥) → kind ≡ 8 → args_at lore kind n ≡ get_or lore (256 + n) 0
+  pub args-fun : args_at lore 8 n ≡ get_or lore.funcs n 0
   unfolding args_at
-  args-fun g h = rw (ne_eqb kind 7 g, args_at, eq-eqb kind 8 h)
+  args-fun = refl
 
-  pub args_none : (kind ≡ 7 → ⊥) → (kind ≡ 8 → ⊥) → args_at lore kind n ≡ 0
+  pub args_none : (kind : ℕ) → (kind ≡ 7 → ⊥) → (kind ≡ 8 → ⊥) → args_at lore kind n ≡ 0
   unfolding args_at
-  args_none g h = rw (ne_eqb kind 7 g, args_at, ne_eqb kind 8 h)
+  args_none kind g h = rw (ne_eqb kind 7 g, args_at, ne_eqb kind 8 h)
 
-module _ (rows : List ℕ) (kind n : ℕ) where
-  pub code-con : kind ≡ 7 → num_code rows kind n ≡ 0x38 ∷ 0 ∷ n ∷ []
+module _ (rows : List ℕ) (n : ℕ) where
+  pub code-con : num_code rows 7 n ≡ 0x38 ∷ 0 ∷ n ∷ []
   unfolding num_code
-  code-con h = rw (eq-eqb kind 7 h, num_code)
+  code-con = refl
 
-  pub code-fun : (kind ≡ 7 → ⊥) → kind ≡ 8 → num_code rows kind n ≡ 0x38 ∷ 1 ∷ n ∷ []
+  pub code-fun : num_code rows 8 n ≡ 0x38 ∷ 1 ∷ n ∷ []
   unfolding num_code
-  code-fun g h = rw (ne_eqb kind 7 g, num_code, eq-eqb kind 8 h)
+  code-fun = refl
 
-  pub code-fresh : (kind ≡ 7 → ⊥) → (kind ≡ 8 → ⊥) → kind ≡ 10 → num_code rows kind n ≡ 0x37 ∷ n ∷ []
+  pub code-fresh : num_code rows 10 n ≡ 0x37 ∷ n ∷ []
   unfolding num_code
-  code-fresh f g h = rw (ne_eqb kind 7 f, num_code, ne_eqb kind 8 g, eq-eqb kind 10 h)
+  code-fresh = refl
 
-  pub code-slot : (kind ≡ 7 → ⊥) → (kind ≡ 8 → ⊥) → (kind ≡ 10 → ⊥) → num_code rows kind n ≡ (0x30 ∷ row rows n) ++ 0x33 ∷ []
+  pub code-slot : (kind : ℕ) → (kind ≡ 7 → ⊥) → (kind ≡ 8 → ⊥) → (kind ≡ 10 → ⊥) → num_code rows kind n ≡ (0x30 ∷ row rows n) ++ 0x33 ∷ []
   unfolding num_code
-  code-slot f g h = rw (ne_eqb kind 7 f, num_code, ne_eqb kind 8 g, ne_eqb kind 10 h)
+  code-slot kind f g h = rw (ne_eqb kind 7 f, num_code, ne_eqb kind 8 g, ne_eqb kind 10 h)
 
 -- of n + 1 records the last one's code comes first
 pub back_last : (rows s : List ℕ) (k n : ℕ) → back rows s k (suc n) ≡ num_code rows (get_or s (k + 2 * n) 0) (get_or s (k + 2 * n + 1) 0) ++ back rows s k n
@@ -97,18 +82,17 @@ pub back_none : (rows s : List ℕ) (k n : ℕ) → n ≤ 0 → back rows s k n 
 unfolding back
 back_none rows s k n h = let e : n ≡ 0 = omega arith in ap (back rows s k) e
 
--- the arm's next instance
-pub arm_step : (lore : List ℕ) (c n : ℕ) → 0 < n → c + n ≤ length lore → arm_code c (take n (drop c lore)) ≡ (replicate (get_or lore c 0) 0x35 ++ 0x38 ∷ 0 ∷ c ∷ []) ++ arm_code (c + 1) (take (n - 1) (drop (c + 1) lore))
+-- the arm's next instance, for the constructors from number c up to e
+pub arm_step : (lore : List ℕ) (c e : ℕ) → c < e → e ≤ length lore → arm_code c (take (e - c) (drop c lore)) ≡ (replicate (get_or lore c 0) 0x35 ++ 0x38 ∷ 0 ∷ c ∷ []) ++ arm_code (c + 1) (take (e - (c + 1)) (drop (c + 1) lore))
 unfolding arm_code
-arm_step lore c n h q =
-    let e : n ≡ suc (n - 1) = omega arith in
+arm_step lore c e h q =
+    let n : e - c ≡ suc (e - suc c) = omega arith in
     let d : drop c lore ≡ get_or lore c 0 ∷ drop (suc c) lore = drop-cons lore c 0 (omega arith) in
-    ap (λ (k : ℕ). arm_code c (take k (drop c lore))) e
-    ∙ rw (d, add-one c, append_assoc (replicate (get_or lore c 0) 0x35) (0x38 ∷ 0 ∷ c ∷ []) (arm_code (suc c) (take (n - 1) (drop (suc c) lore))))
+    rw (n, d, add-one c, append_assoc (replicate (get_or lore c 0) 0x35) (0x38 ∷ 0 ∷ c ∷ []) (arm_code (suc c) (take (e - suc c) (drop (suc c) lore))))
 
-pub arm-none : (lore : List ℕ) (c n : ℕ) → n ≤ 0 → arm_code c (take n (drop c lore)) ≡ 0x3A ∷ []
+pub arm-none : (lore : List ℕ) (c e : ℕ) → e ≤ c → arm_code c (take (e - c) (drop c lore)) ≡ 0x3A ∷ []
 unfolding arm_code
-arm-none lore c n h = let e : n ≡ 0 = omega arith in rw e
+arm-none lore c e h = let n : e - c ≡ 0 = omega arith in rw n
 
 module _ {l l' : List ℕ} {o r : ℕ} {whole : List ℕ} where
   -- there is room for the next record's code, and for the next instance's
@@ -120,13 +104,13 @@ module _ {l l' : List ℕ} {o r : ℕ} {whole : List ℕ} where
       let c = length-append (num_code rows (get_or s (k + 2 * (n - 1)) 0) (get_or s (k + 2 * (n - 1) + 1) 0)) (back rows s k (n - 1)) in
       omega arith
 
-  pub arm-room : (lore : List ℕ) (c n : ℕ) → Progress l l' o r (arm_code c (take n (drop c lore))) whole → 0 < n → c + n ≤ length lore → o + length whole ≤ length l
+  pub arm-room : (lore : List ℕ) (c e : ℕ) → Progress l l' o r (arm_code c (take (e - c) (drop c lore))) whole → c < e → e ≤ length lore → o + length whole ≤ length l
       → r + (get_or lore c 0 + 3) ≤ length l'
-  arm-room lore c n p h i q =
+  arm-room lore c e p h i q =
       let a = progress-room p q in
-      let b = ap length (arm_step lore c n h i) in
-      let d = length-append (replicate (get_or lore c 0) 0x35 ++ 0x38 ∷ 0 ∷ c ∷ []) (arm_code (c + 1) (take (n - 1) (drop (c + 1) lore))) in
-      let e = instance-long (get_or lore c 0) 0x35 (0x38 ∷ 0 ∷ c ∷ []) in
+      let b = ap length (arm_step lore c e h i) in
+      let d = length-append (replicate (get_or lore c 0) 0x35 ++ 0x38 ∷ 0 ∷ c ∷ []) (arm_code (c + 1) (take (e - (c + 1)) (drop (c + 1) lore))) in
+      let f = instance-long (get_or lore c 0) 0x35 (0x38 ∷ 0 ∷ c ∷ []) in
       omega arith
 
   pub progress-long : {ahead : List ℕ} → Progress l l' o r ahead whole → length l' ≡ length l

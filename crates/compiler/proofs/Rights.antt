@@ -1,7 +1,7 @@
 -- RIGHTs as they stand in the book, one after the other, and their code.
 use Prim.Native.Nat.{ℕ, ◌+◌, ◌-◌, ◌*◌, ◌≤◌, ◌<◌}
 use native.Mathlib.Omega.{arith}
-use mathlib.Core.Path.{◌≡◌, refl, ap, sym, ◌∙◌}
+use mathlib.Core.Path.{◌≡◌, refl, ap, sym, ◌∙◌, subst}
 use mathlib.Core.List.{List, [], ◌∷◌, ◌++◌, append_assoc, map}
 use lib.ListN.{length, get_or, drop, length-append}
 use Rattle.book.specs.Syntax.{Right, con_arities}
@@ -9,6 +9,7 @@ use Rattle.book.specs.Accepted.{records, FineRights}
 use Rattle.heap.specs.Build.{up_from}
 use Rattle.engine.specs.Code.{emit, store_var}
 use Rattle.engine.specs.Compile.{Positions, of_term, of_right, of_rights}
+use Rattle.compiler.specs.declared.Lore.{Lore}
 use Rattle.compiler.specs.Records.{bytes, term_recs, rights_recs}
 use Rattle.compiler.specs.Rows.{Emits, Progress, back, vars_code}
 use Rattle.compiler.specs.Here.{TermHere, RightsHere, RightsDone}
@@ -29,7 +30,7 @@ pub no-rights : (pos : Positions) → emit (of_rights pos []) ≡ []
 unfolding of_rights emit
 no-rights pos = refl
 
-module _ {s lore rows code₀ : List ℕ} {from n o : ℕ} (x : RightsHere s lore rows from n o code₀) where
+module _ {s : List ℕ} {lore : Lore} {rows code₀ : List ℕ} {from n o : ℕ} (x : RightsHere s lore rows from n o code₀) where
   -- the RIGHTs that are left
   pub record Left (at left out : ℕ) (code : List ℕ) : Type 0 where
     pub rights : List Right
@@ -52,6 +53,9 @@ module _ {s lore rows code₀ : List ℕ} {from n o : ℕ} (x : RightsHere s lor
     pub next : (size p q : ℕ) (code' code'' : List ℕ) → size ≡ records here.term → Emits code code' out p (vars_code vars) → Emits code' code'' p q (back rows s (at + 2) size) → Left (at + 2 + 2 * size) (left - 1) q code''
 
   module _ {at left out : ℕ} {code : List ℕ} (d : Left at left out code) where
+    pub left-as : (k : ℕ) → left ≡ k → Left at k out code
+    left-as k e = subst (λ (k : ℕ). Left at k out code) e d
+
     pub left-turns : 0 < left → Turn at left out code
     left-turns h = go d.rights d.is d.fine d.count d.wrote d.passed
       where

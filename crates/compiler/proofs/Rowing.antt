@@ -1,23 +1,23 @@
 -- The rows of positions: one written over, the others kept; the positions under a SPLIT.
 use Prim.Native.Nat.{ℕ, zero, suc, ◌+◌, ◌-◌, ◌*◌, ◌≤◌, ◌<◌}
 use native.Mathlib.Nat.{add-zero}
-use native.Mathlib.Numerals.{add-one}
 use native.Mathlib.Omega.{arith}
 use mathlib.Core.Path.{◌≡◌, refl, ap, sym, ◌∙◌}
 use mathlib.Core.Bool.{Bool, true, false}
-use mathlib.Core.Logic.{◌⊎◌, inl, inr}
+use mathlib.Core.Logic.{inl}
 use mathlib.Core.List.{List, [], ◌∷◌, ◌++◌, append_assoc, map}
 use lib.ListN.{length, get_or, take, drop, set, replicate, length-append, length-set, length-replicate, length-map, get_or-replicate, get_or-append, get_or-eq_default}
-use lib.Seq.{sets, length-sets, sets-eq, set-set, take-set-le, drop-set-lt, take-set-lt, set-append_seam, take-append-le, take_at, drop_at, take_all, length-take-le, take-suc, get_or-drop, get_or-take, get_or-append-add, get_or-set_same, get_or-set_other}
+use lib.Seq.{sets, length-sets, sets-eq, set-set, take-set-le, drop-set-lt, take-set-lt, set-append_seam, take-append-le, take_at, drop_at, length-take-le, get_or-append-add, get_or-set_same, get_or-set_other}
 use lib.Dec.{eqb, ltb}
 use borrow.Author.Tests.{eqb-true, eqb-false, ltb-true, ltb-false}
 use Rattle.mem.proofs.Laws.{drop-take}
+use Rattle.std.specs.List.{copy_within}
 use Rattle.book.specs.Reading.{Slots, under}
 use Rattle.heap.specs.Build.{up_from}
 use Rattle.engine.specs.Compile.{Positions, below}
 use Rattle.compiler.specs.Rows.{row, load_body, Rows, Stepped, Grown}
 use Rattle.compiler.specs.Here.{Match}
-use Rattle.compiler.proofs.Writing.{set-sets, sets-append}
+use Rattle.compiler.proofs.Writing.{set-sets}
 use Rattle.compiler.proofs.Loops.{row-long, row_at}
 
 pub apart : (a b : ℕ) → a ≤ b → (a ≡ b → ⊥) → a < b
@@ -76,82 +76,33 @@ copied-body r p step len q h u =
     let v : len + 1 ≡ length p + 1 = omega arith in
     ap (λ (l : List ℕ). set (set l 0 (len + 1)) (1 + len) step) q ∙ rw (w, v) (step-body p step (omega arith))
 
--- one byte more is copied
-module _ (rows : List ℕ) (slot to : ℕ) (long : length rows ≡ 2304) (s : slot < 256) (t : to < 256) (d : slot ≡ to → ⊥) where
-  -- reading the old row while the new one is written
-  old-kept : (j : ℕ) (x : List ℕ) → length x ≤ 9 → j < 9 → get_or (sets rows (9 * to) x) (9 * slot + j) 0 ≡ get_or rows (9 * slot + j) 0
-  old-kept j x h q = go (ltb slot to) refl
-    where
-      go : (b : Bool) → ltb slot to ≡ b → get_or (sets rows (9 * to) x) (9 * slot + j) 0 ≡ get_or rows (9 * slot + j) 0
-      go true u =
-          let v = ltb-true slot to u in
-          sym (get_or-take (9 * to) (sets rows (9 * to) x) (9 * slot + j) 0 (omega arith)) ∙ rw (take-sets (9 * to) rows (9 * to) x (omega arith)) (get_or-take (9 * to) rows (9 * slot + j) 0 (omega arith))
-      go false u =
-          let v = ltb-false slot to u in
-          let w : to < slot = apart to slot v (λ z. d (sym z)) in
-          sym (get_or-drop (9 * slot) (sets rows (9 * to) x) j 0) ∙ rw (drop-sets (9 * slot) rows (9 * to) x (omega arith)) (get_or-drop (9 * slot) rows j 0)
+-- a row written over another, its length one more, and the new step behind
+module _ (rows : List ℕ) (slot to : ℕ) (long : length rows ≡ 2304) (s : slot < 256) (t : to < 256) where
+  copied : copy_within rows (9 * slot) (9 * slot + 9) (9 * to) ≡ sets rows (9 * to) (row rows slot)
+  unfolding row
+  copied =
+      let n : length (take 9 (drop (9 * slot) rows)) ≡ 9 = row-long rows slot long s in
+      let e : 9 * slot + 9 - 9 * slot ≡ 9 = omega arith in
+      rw (e, sets-eq (take 9 (drop (9 * slot) rows)) rows (9 * to) (omega arith), n)
 
-  pub copied-step : (j : ℕ) → j < 9
-      → set (sets rows (9 * to) (take j (row rows slot))) (9 * to + j) (get_or (sets rows (9 * to) (take j (row rows slot))) (9 * slot + j) 0) ≡ sets rows (9 * to) (take (j + 1) (row rows slot))
-  copied-step j h =
+  pub stepped : (step : ℕ) (rows' : List ℕ) → rows' ≡ copy_within rows (9 * slot) (9 * slot + 9) (9 * to) → get_or rows (9 * slot) 0 < 8
+      → Stepped rows (set (set rows' (9 * to) (get_or rows (9 * slot) 0 + 1)) (9 * to + 1 + get_or rows (9 * slot) 0) step) slot to step
+  stepped step rows' e h =
       let C : List ℕ = row rows slot in
+      let len : ℕ = get_or rows (9 * slot) 0 in
       let n : length C ≡ 9 = row-long rows slot long s in
-      let m : length (take j C) ≡ j = length-take-le j C (omega arith) in
-      let k = old-kept j (take j C) (omega arith) h in
-      let a : take (suc j) C ≡ take j C ++ (get_or C j 0 ∷ []) = take-suc C j 0 (omega arith) in
-      let b : get_or C j 0 ≡ get_or rows (9 * slot + j) 0 = row_at rows slot j h in
-      rw (k, add-one j, a, b, sets-append rows (9 * to) (take j C) (get_or rows (9 * slot + j) 0 ∷ []), m)
-
-  -- all nine, and the new step
-  pub stepped : (j step len len' : ℕ) (rows' : List ℕ) → 9 ≤ j → j ≤ 9 → rows' ≡ sets rows (9 * to) (take j (row rows slot)) → get_or rows (9 * slot) 0 ≡ len → len < 8 → len' ≡ len
-      → Stepped rows (set (set rows' (9 * to) (len + 1)) (9 * to + 1 + len') step) slot to step
-  stepped j step len len' rows' lo hi e q h g' =
-      let C : List ℕ = row rows slot in
-      let n : length C ≡ 9 = row-long rows slot long s in
-      let e' : rows' ≡ sets rows (9 * to) C = e ∙ ap (λ (l : List ℕ). sets rows (9 * to) l) (take_all j C (omega arith)) in
       let u : 9 * to ≡ 9 * to + 0 = omega arith in
-      let v : 9 * to + 1 + len' ≡ 9 * to + (1 + len) = omega arith in
+      let v : 9 * to + 1 + len ≡ 9 * to + (1 + len) = omega arith in
       let X : List ℕ = set (set C 0 (len + 1)) (1 + len) step in
-      let f₀ : set rows' (9 * to) (len + 1) ≡ sets rows (9 * to) (set C 0 (len + 1)) = rw e' (ap (λ (k : ℕ). set (sets rows (9 * to) C) k (len + 1)) u ∙ set-in rows (9 * to) C 0 (len + 1) (omega arith)) in
-      let f : set (set rows' (9 * to) (len + 1)) (9 * to + 1 + len') step ≡ sets rows (9 * to) X =
-      rw (f₀, v) (set-in rows (9 * to) (set C 0 (len + 1)) (1 + len) step (omega (arith, length-set C 0 (len + 1)))) in
+      let f₀ : set rows' (9 * to) (len + 1) ≡ sets rows (9 * to) (set C 0 (len + 1)) = rw (e, copied) (ap (λ (k : ℕ). set (sets rows (9 * to) C) k (len + 1)) u ∙ set-in rows (9 * to) C 0 (len + 1) (omega arith)) in
+      let f : set (set rows' (9 * to) (len + 1)) (9 * to + 1 + len) step ≡ sets rows (9 * to) X = rw (f₀, v) (set-in rows (9 * to) (set C 0 (len + 1)) (1 + len) step (omega (arith, length-set C 0 (len + 1)))) in
       let z : 9 * slot + 0 ≡ 9 * slot = omega arith in
       let g : length X ≡ 9 = length-set (set C 0 (len + 1)) (1 + len) step ∙ length-set C 0 (len + 1) ∙ n in
       record {
         long = rw f (length-sets rows (9 * to) X);
-        is = λ p r. rw (f, row_same rows to X long t g) (copied-body (row rows slot) p step len r (row_at rows slot 0 (omega arith) ∙ rw z q) h);
+        is = λ p r. rw (f, row_same rows to X long t g) (copied-body (row rows slot) p step len r (row_at rows slot 0 (omega arith) ∙ rw z) h);
         same = λ i l u. rw f (row_other rows to X long t g i u);
       }
-
--- rows that grow
-pub grown-start : (rows : List ℕ) (slot n : ℕ) → Grown rows rows slot n 0
-grown-start rows slot n = record { long = refl; are = λ p q j h. absurd (omega arith); same = λ i h q. refl }
-
-pub grown-step : (rows rows' rows'' : List ℕ) (slot n i : ℕ) → Grown rows rows' slot n i → Stepped rows' rows'' slot (n + i) (i + 1) → slot < 256 → (slot < n) ⊎ (n + i < slot) → n + i < 64 → Grown rows rows'' slot n (i + 1)
-grown-step rows rows' rows'' slot n i g s h u v = record {
-  long = s.long ∙ g.long;
-  are = λ p q j w. at p q j (ltb j i) refl w;
-  same = λ k w z. s.same k w (λ e. away k e z) ∙ g.same k w (shrink k z);
-}
-  where
-    kept : row rows' slot ≡ row rows slot
-    kept = g.same slot h (side u)
-      where
-        side : (slot < n) ⊎ (n + i < slot) → (slot < n) ⊎ (n + i ≤ slot)
-        side (inl a) = inl a
-        side (inr a) = inr (omega arith)
-
-    at : (p : List ℕ) → row rows slot ≡ load_body p → (j : ℕ) (b : Bool) → ltb j i ≡ b → j < i + 1 → row rows'' (n + j) ≡ load_body (p ++ (j + 1) ∷ [])
-    at p q j true t w = let z = ltb-true j i t in s.same (n + j) (omega arith) (λ e. omega arith) ∙ g.are p q j z
-    at p q j false t w = let e : j ≡ i = omega (arith, ltb-false j i t) in rw e (s.is p (kept ∙ q))
-
-    away : (k : ℕ) → k ≡ n + i → (k < n) ⊎ (n + (i + 1) ≤ k) → ⊥
-    away k e (inl a) = omega arith
-    away k e (inr a) = omega arith
-
-    shrink : (k : ℕ) → (k < n) ⊎ (n + (i + 1) ≤ k) → (k < n) ⊎ (n + i ≤ k)
-    shrink k (inl a) = inl a
-    shrink k (inr a) = inr (omega arith)
 
 up-long : (a n : ℕ) → length (up_from a n) ≡ n
 unfolding up_from

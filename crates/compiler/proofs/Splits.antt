@@ -13,8 +13,9 @@ use Rattle.book.specs.Syntax.{con, Tree, Trees, split, rule, norule, stop, child
 use Rattle.book.specs.Accepted.{FineTree, FineTrees}
 use Rattle.engine.specs.Code.{Instr, four, encode, emit, go, make_anon, make_term}
 use Rattle.engine.specs.Compile.{Positions, of_instances, of_tree, of_trees, offsets, flat}
+use Rattle.compiler.specs.declared.Lore.{Lore}
 use Rattle.compiler.specs.Records.{bytes, tree_recs, trees_recs}
-use Rattle.compiler.specs.Rows.{Lore, row, load_body, Fronts, Emits, arm_code}
+use Rattle.compiler.specs.Rows.{LoreIs, row, load_body, Fronts, Emits, arm_code}
 use Rattle.compiler.specs.Here.{TreeHere, TreeDone, TreesHere, TreesDone}
 use Rattle.compiler.specs.declared.Ends.{Ends}
 use Rattle.compiler.proofs.Writing.{sets-append, sets-comm}
@@ -41,17 +42,17 @@ arm-emit c [] = refl
 arm-emit c (a ∷ l) = rw (emit-append (replicate a make_anon) (make_term (con c) ∷ of_instances (suc c) l), anons a, arm-emit (suc c) l)
 
 -- the part of the lore that holds a type's arities
-module _ (types : List (List ℕ)) (funcs lore : List ℕ) (told : Lore types funcs lore) (t : ℕ) (h : t < length types) where
-  pub lore-at : (j : ℕ) → j < length (cons_of types t) → get_or lore (first_con types t + j) 0 ≡ get_or (cons_of types t) j 0
+module _ (types : List (List ℕ)) (funcs : List ℕ) (lore : Lore) (told : LoreIs types funcs lore) (t : ℕ) (h : t < length types) where
+  pub lore-at : (j : ℕ) → j < length (cons_of types t) → get_or lore.cons (first_con types t + j) 0 ≡ get_or (cons_of types t) j 0
   lore-at j q = told.con_ars (first_con types t + j) (let f = first_fits types t h in omega arith) ∙ arity-at types t j q
 
-  pub lore-part : take (length (cons_of types t)) (drop (first_con types t) lore) ≡ cons_of types t
+  pub lore-part : take (length (cons_of types t)) (drop (first_con types t) lore.cons) ≡ cons_of types t
   lore-part =
       let f = first_fits types t h in
-      let n : length (take (length (cons_of types t)) (drop (first_con types t) lore)) ≡ length (cons_of types t) =
-      length-take-le (length (cons_of types t)) (drop (first_con types t) lore) (omega (arith, length-drop (first_con types t) lore, told.long, told.fine.cons)) in
-      ext_get_or 0 (take (length (cons_of types t)) (drop (first_con types t) lore)) (cons_of types t) n (λ i q.
-      get_or-take (length (cons_of types t)) (drop (first_con types t) lore) i 0 (omega arith) ∙ get_or-drop (first_con types t) lore i 0 ∙ lore-at i (omega arith))
+      let n : length (take (length (cons_of types t)) (drop (first_con types t) lore.cons)) ≡ length (cons_of types t) =
+      length-take-le (length (cons_of types t)) (drop (first_con types t) lore.cons) (omega (arith, length-drop (first_con types t) lore.cons, told.long, told.fine.cons)) in
+      ext_get_or 0 (take (length (cons_of types t)) (drop (first_con types t) lore.cons)) (cons_of types t) n (λ i q.
+      get_or-take (length (cons_of types t)) (drop (first_con types t) lore.cons) i 0 (omega arith) ∙ get_or-drop (first_con types t) lore.cons i 0 ∙ lore-at i (omega arith))
 
 pub gos-long : (l : List ℕ) → length (emit (map go l)) ≡ 5 * length l
 unfolding emit encode four
@@ -125,7 +126,7 @@ trees-long types funcs slots s stop (a ∷ l) pos i at arities f = absurd f
 trees-long types funcs slots s (child t ts) [] pos i at arities f = absurd f
 trees-long types funcs slots s (child t ts) (a ∷ l) pos i at arities f = ap suc (trees-long types funcs slots s ts l pos i _ (drop 1 arities) f.1)
 
-module _ {s lore rows : List ℕ} {n at o : ℕ} {code : List ℕ} (x : TreeHere s lore rows n at o code) where
+module _ {s : List ℕ} {lore : Lore} {rows : List ℕ} {n at o : ℕ} {code : List ℕ} (x : TreeHere s lore rows n at o code) where
   abbrev stands : Tree → List ℕ
   stands t = bytes (tree_recs t) ++ x.rest
 
@@ -166,7 +167,7 @@ module _ {s lore rows : List ℕ} {n at o : ℕ} {code : List ℕ} (x : TreeHere
 
   pub record SplitIs (slot ty c m : ℕ) : Type 0 where
     pub cons : c + m ≤ 256
-    pub room : o + 17 + 5 * m + length (arm_code c (take m (drop c lore))) ≤ length code
+    pub room : o + 17 + 5 * m + length (arm_code c (take m (drop c lore.cons))) ≤ length code
     pub here : (code' : List ℕ) (r : ℕ) → Fronts lore rows code code' slot ty c m o r → TreesHere s lore rows n slot c m (at + 3) (o + 17) r code'
     pub finish : (code' code'' : List ℕ) (r : ℕ) (e : Ends) (f : Fronts lore rows code code' slot ty c m o r) → TreesDone (here code' r f) code'' e → TreeDone x code'' e
 
@@ -189,7 +190,7 @@ module _ {s lore rows : List ℕ} {n at o : ℕ} {code : List ℕ} (x : TreeHere
           record { inside = w.2; slot = omega (arith, w.0, f.0, x.match.long, x.are.few); type = omega (arith, w.1, f.2, x.told.fine.few) }
 
   module _ (slot ty c m i u : ℕ) (ts : Trees) (inside : drop (at + 3) s ≡ bytes (trees_recs ts) ++ x.rest) (f : FineTree x.types x.funcs x.slots (split i u ts)) (q : x.tree ≡ split i u ts)
-      (a : slot ≡ i) (b : ty ≡ u) (d : c ≡ first_con x.types u) (e : m ≡ length (cons_of x.types u)) (A : arm_code c (take m (drop c lore)) ≡ emit (of_instances (first_con x.types u) (cons_of x.types u))) where
+      (a : slot ≡ i) (b : ty ≡ u) (d : c ≡ first_con x.types u) (e : m ≡ length (cons_of x.types u)) (A : arm_code c (take m (drop c lore.cons)) ≡ emit (of_instances (first_con x.types u) (cons_of x.types u))) where
     abbrev arm_long : ℕ
     arm_long = length (emit (of_instances (first_con x.types u) (cons_of x.types u)))
 
@@ -278,19 +279,19 @@ module _ {s lore rows : List ℕ} {n at o : ℕ} {code : List ℕ} (x : TreeHere
       finish = λ code' code'' r w F D. fronts-done code' r F code'' w D;
     }
 
-  pub split-is : (slot ty t c m : ℕ) → slot ≡ get_or s (at + 1) 0 → ty ≡ get_or s (at + 2) 0 → t ≡ ty → c ≡ get_or lore (512 + t) 0 → m ≡ get_or lore (576 + t) 0 → get_or s at 0 ≡ 4 → SplitIs slot ty c m
-  split-is slot ty t c m e₁ e₂ e₃ e₄ e₅ k = go x.tree refl
+  pub split-is : get_or s at 0 ≡ 4 → SplitIs (get_or s (at + 1) 0) (get_or s (at + 2) 0) (get_or lore.firsts (get_or s (at + 2) 0) 0) (get_or lore.counts (get_or s (at + 2) 0) 0)
+  split-is k = go x.tree refl
     where
-      go : (t : Tree) → x.tree ≡ t → SplitIs slot ty c m
+      go : (t : Tree) → x.tree ≡ t → SplitIs (get_or s (at + 1) 0) (get_or s (at + 2) 0) (get_or lore.firsts (get_or s (at + 2) 0) 0) (get_or lore.counts (get_or s (at + 2) 0) 0)
       go (rule rs) q = absurd (omega (arith, (head-is s at 5 _ (x.is ∙ ap stands q)).0))
       go norule q = absurd (omega (arith, (head-is s at 11 _ (x.is ∙ ap stands q)).0))
       go (split i u ts) q =
           let w = three-are i u (bytes (trees_recs ts) ++ x.rest) (x.is ∙ ap stands q) in
           let f : FineTree x.types x.funcs x.slots (split i u ts) = subst (FineTree x.types x.funcs x.slots) q x.fine in
-          let a : slot ≡ i = e₁ ∙ w.0 in
-          let b : ty ≡ u = e₂ ∙ w.1 in
-          let d : c ≡ first_con x.types u = e₄ ∙ ap (λ (k : ℕ). get_or lore (512 + k) 0) (e₃ ∙ b) ∙ x.told.firsts u f.2 in
-          let e : m ≡ length (cons_of x.types u) = e₅ ∙ ap (λ (k : ℕ). get_or lore (576 + k) 0) (e₃ ∙ b) ∙ x.told.counts u f.2 in
-          let A : arm_code c (take m (drop c lore)) ≡ emit (of_instances (first_con x.types u) (cons_of x.types u)) =
+          let c : ℕ = get_or lore.firsts (get_or s (at + 2) 0) 0 in
+          let m : ℕ = get_or lore.counts (get_or s (at + 2) 0) 0 in
+          let d : c ≡ first_con x.types u = ap (λ (k : ℕ). get_or lore.firsts k 0) w.1 ∙ x.told.firsts u f.2 in
+          let e : m ≡ length (cons_of x.types u) = ap (λ (k : ℕ). get_or lore.counts k 0) w.1 ∙ x.told.counts u f.2 in
+          let A : arm_code c (take m (drop c lore.cons)) ≡ emit (of_instances (first_con x.types u) (cons_of x.types u)) =
           rw (d, e, lore-part x.types x.funcs lore x.told u f.2) (arm-emit (first_con x.types u) (cons_of x.types u)) in
-          split-made slot ty c m i u ts w.3 f q a b d e A
+          split-made (get_or s (at + 1) 0) (get_or s (at + 2) 0) c m i u ts w.3 f q w.0 w.1 d e A

@@ -12,6 +12,7 @@ use Rattle.book.specs.Accepted.{count, records, records_of, FineTerm, FineTerms}
 use Rattle.heap.specs.Build.{up_from}
 use Rattle.engine.specs.Code.{Instr, make_term, store_var, encode, emit}
 use Rattle.engine.specs.Compile.{Positions, of_term, of_terms}
+use Rattle.compiler.specs.declared.Lore.{Lore}
 use Rattle.compiler.specs.Records.{a_symbol, bytes_of, bytes, term_recs, terms_recs}
 use Rattle.compiler.specs.Rows.{Rows, num_code, back, vars_code, args_at}
 use Rattle.compiler.specs.Here.{TermHere}
@@ -96,14 +97,14 @@ count-records done = omega arith
 count-records (arg t ts) = let h = count-records ts in let i = some-record t in omega arith
 
 -- the terms that are still due at a place, and how many records they have
-pub record Due (s lore : List ℕ) (k : ℕ) (x : TermHere s lore k) (at due n : ℕ) : Type 0 where
+pub record Due (s : List ℕ) (lore : Lore) (k : ℕ) (x : TermHere s lore k) (at due n : ℕ) : Type 0 where
   pub terms : Terms
   pub is : drop at s ≡ bytes (terms_recs terms) ++ x.rest
   pub fine : FineTerms (con_arities x.types) x.funcs x.slots x.vars terms
   pub count : count terms ≡ due
   pub total : n + records_of terms ≡ records x.term
 
-module _ {s lore : List ℕ} {k : ℕ} (x : TermHere s lore k) where
+module _ {s : List ℕ} {lore : Lore} {k : ℕ} (x : TermHere s lore k) where
   pub due-start : Due s lore k x k 1 0
   due-start = record {
     terms = arg x.term done;
@@ -165,11 +166,11 @@ module _ {s lore : List ℕ} {k : ℕ} (x : TermHere s lore k) where
         go : (ts : Terms) → drop at s ≡ bytes (terms_recs ts) ++ x.rest → Fine ts → count ts ≡ due → n + records_of ts ≡ records x.term → Goes
         go done p f u v = absurd (omega arith)
         go (arg (app (con c) us) ts) p f u v =
-            applied 7 c us ts (p ∙ ap (λ (l : List ℕ). l ++ x.rest) (joins (con c) us ts)) (args-con lore 7 c refl ∙ x.told.con_ars c f.0.0 ∙ sym f.0.1) f.0.2 f.1 u v
+            applied 7 c us ts (p ∙ ap (λ (l : List ℕ). l ++ x.rest) (joins (con c) us ts)) (args-con lore c ∙ x.told.con_ars c f.0.0 ∙ sym f.0.1) f.0.2 f.1 u v
         go (arg (app (fun c) us) ts) p f u v =
-            applied 8 c us ts (p ∙ ap (λ (l : List ℕ). l ++ x.rest) (joins (fun c) us ts)) (args-fun lore 8 c (λ z. omega arith) refl ∙ x.told.fun_ars c f.0.0 ∙ sym f.0.1) f.0.2 f.1 u v
-        go (arg (slot i) ts) p f u v = alone 9 i ts p (args_none lore 9 i (λ z. omega arith) (λ z. omega arith)) f.1 u v
-        go (arg (fresh i) ts) p f u v = alone 10 i ts p (args_none lore 10 i (λ z. omega arith) (λ z. omega arith)) f.1 u v
+            applied 8 c us ts (p ∙ ap (λ (l : List ℕ). l ++ x.rest) (joins (fun c) us ts)) (args-fun lore c ∙ x.told.fun_ars c f.0.0 ∙ sym f.0.1) f.0.2 f.1 u v
+        go (arg (slot i) ts) p f u v = alone 9 i ts p (args_none lore i 9 (λ z. omega arith) (λ z. omega arith)) f.1 u v
+        go (arg (fresh i) ts) p f u v = alone 10 i ts p (args_none lore i 10 (λ z. omega arith) (λ z. omega arith)) f.1 u v
 
 pub emit-append : (a b : List Instr) → emit (a ++ b) ≡ emit a ++ emit b
 unfolding emit
@@ -197,16 +198,16 @@ module _ (rows : List ℕ) (pos : Positions) (are : Rows rows pos) (s cons funcs
     pub term-code : (t : Term) (k : ℕ) (rest : List ℕ) → drop k s ≡ bytes (term_recs t) ++ rest → FineTerm cons funcs (length pos) vars t → back rows s k (records t) ≡ emit (of_term pos t)
     term-code (app (con c) ts) k rest h f =
         let w = two-are s k 7 c (bytes (terms_recs ts) ++ rest) h in
-        rw (w.first, w.second, code-con rows 7 c refl, terms-code ts (k + 2) rest w.rest f.2, emit-append (of_terms pos ts) (make_term (con c) ∷ []))
+        rw (w.first, w.second, code-con rows c, terms-code ts (k + 2) rest w.rest f.2, emit-append (of_terms pos ts) (make_term (con c) ∷ []))
     term-code (app (fun c) ts) k rest h f =
         let w = two-are s k 8 c (bytes (terms_recs ts) ++ rest) h in
-        rw (w.first, w.second, code-fun rows 8 c (λ z. omega arith) refl, terms-code ts (k + 2) rest w.rest f.2, emit-append (of_terms pos ts) (make_term (fun c) ∷ []))
+        rw (w.first, w.second, code-fun rows c, terms-code ts (k + 2) rest w.rest f.2, emit-append (of_terms pos ts) (make_term (fun c) ∷ []))
     term-code (slot i) k rest h f =
         let w = two-are s k 9 i rest h in
-        rw (w.first, w.second, code-slot rows 9 i (λ z. omega arith) (λ z. omega arith) (λ z. omega arith), are.are i f)
+        rw (w.first, w.second, code-slot rows i 9 (λ z. omega arith) (λ z. omega arith) (λ z. omega arith), are.are i f)
     term-code (fresh i) k rest h f =
         let w = two-are s k 10 i rest h in
-        rw (w.first, w.second, code-fresh rows 10 i (λ z. omega arith) (λ z. omega arith) refl)
+        rw (w.first, w.second, code-fresh rows i)
 
     terms-code : (ts : Terms) (k : ℕ) (rest : List ℕ) → drop k s ≡ bytes (terms_recs ts) ++ rest → FineTerms cons funcs (length pos) vars ts → back rows s k (records_of ts) ≡ emit (of_terms pos ts)
     terms-code done k rest h f = refl

@@ -13,6 +13,7 @@ use Rattle.book.specs.Syntax.{Right, Tree, split, rule, norule, con_arities}
 use Rattle.book.specs.Accepted.{FineRights, FineTree}
 use Rattle.engine.specs.Code.{four, emit, encode, pop, replace, choice}
 use Rattle.engine.specs.Compile.{Positions, of_right, of_rights, of_rule, of_tree}
+use Rattle.compiler.specs.declared.Lore.{Lore}
 use Rattle.compiler.specs.Records.{bytes, rights_recs, tree_recs}
 use Rattle.compiler.specs.Here.{RightsHere, RightsDone, TreeHere, TreeDone}
 use Rattle.compiler.specs.declared.Ends.{Ends}
@@ -37,7 +38,7 @@ module _ (rows : List ℕ) (slot ty o : ℕ) (long : length rows ≡ 2304) (smal
   pub front-place : (g ≡ o + 12) × (length l₂ ≡ length l)
   front-place = let n = row-long rows slot long small in (omega (arith, e₁.next, e₂.next), emits-long e₂ ∙ emits-long e₁)
 
-  pub fronts : (lore : List ℕ) (c m : ℕ) {l₃ l₄ : List ℕ} {q r : ℕ} → Emits l₂ l₃ g q (0x32 ∷ four (g + 5 + 5 * m)) → Emits l₃ l₄ (g + 5 + 5 * m) r (arm_code c (take m (drop c lore))) → Fronts lore rows l l₄ slot ty c m o r
+  pub fronts : (lore : Lore) (c m : ℕ) {l₃ l₄ : List ℕ} {q r : ℕ} → Emits l₂ l₃ g q (0x32 ∷ four (g + 5 + 5 * m)) → Emits l₃ l₄ (g + 5 + 5 * m) r (arm_code c (take m (drop c lore.cons))) → Fronts lore rows l l₄ slot ty c m o r
   fronts lore c m {l₃} {l₄} {q} {r} e₃ e₄ =
       let n = front-place.0 in
       let k : g + 5 + 5 * m ≡ o + 17 + 5 * m = omega arith in
@@ -63,7 +64,7 @@ rule-emit pos [] = refl
 rule-emit pos (r ∷ []) = emit-append (of_right pos r) (pop ∷ replace ∷ []) ∙ rw (append-nil (of_right pos r))
 rule-emit pos (r ∷ r' ∷ rs) = emit-append (of_rights pos (r ∷ r' ∷ rs)) (choice ∷ []) ∙ ap (λ (l : List ℕ). emit (of_rights pos (r ∷ r' ∷ rs)) ++ l) (sym (ending-more (suc (suc (length rs))) (λ z. omega arith)))
 
-module _ {s lore rows : List ℕ} {n at o : ℕ} {code : List ℕ} (x : TreeHere s lore rows n at o code) where
+module _ {s : List ℕ} {lore : Lore} {rows : List ℕ} {n at o : ℕ} {code : List ℕ} (x : TreeHere s lore rows n at o code) where
   -- a RULE
   pub record RuleIs (k : ℕ) : Type 0 where
     pub inside : at + 2 ≤ length s

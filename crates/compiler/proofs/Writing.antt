@@ -1,13 +1,16 @@
--- Bytes written from a place on: one store after another, one run of bytes after another, loops that write.
-use Prim.Native.Nat.{ℕ, suc, ◌+◌, ◌≤◌, ◌<◌}
+-- Bytes written from a place on: a run copied over a part, one run of bytes after another, loops that write.
+use Prim.Native.Nat.{ℕ, suc, ◌+◌, ◌/◌, ◌%◌, ◌≤◌, ◌<◌}
 use native.Mathlib.Nat.{add-zero, add-suc, suc-add}
-use native.Mathlib.Numerals.{add-one}
 use native.Mathlib.Omega.{arith}
 use mathlib.Core.Path.{◌≡◌, refl, ap, sym, ◌∙◌, subst}
 use mathlib.Core.List.{List, [], ◌∷◌, ◌++◌, append_assoc, append-nil}
 use mathlib.Core.Logic.{◌≢◌}
-use lib.ListN.{length, set, length-append}
-use lib.Seq.{sets, length-sets, set_comm}
+use borrow.Rule.Slice.PartMut.{put_mid}
+use Rattle.std.proofs.lemmas.Slice.{put_mid-paste}
+use lib.ListN.{length, get_or, set, length-append}
+use lib.Seq.{sets, length-sets, set_comm, sets-eq, take-length}
+use Rattle.std.specs.Int.{w64, to_le_bytes}
+use Rattle.engine.specs.Code.{four}
 use Rattle.compiler.specs.Rows.{Emits, Progress}
 
 pub sets-append : (l : List ℕ) (o : ℕ) (x y : List ℕ) → sets l o (x ++ y) ≡ sets (sets l o x) (o + length x) y
@@ -66,16 +69,16 @@ module _ {l l' : List ℕ} {o r : ℕ} {ahead whole : List ℕ} (p : Progress l 
       let c = length-sets l o p.written in
       rw p.is (omega (arith, p.next))
 
--- stores by hand
-pub two : (l : List ℕ) (o a b : ℕ) → Emits l (set (set l o a) (o + 1) b) o (o + 2) (a ∷ b ∷ [])
-two l o a b = record { is = rw (add-one o); next = refl }
+-- a run of bytes copied over a part
+pub pasted : (l : List ℕ) (o k : ℕ) (x y : List ℕ) → y ≡ x → k ≡ length x → o + length x ≤ length l → put_mid o k l y ≡ sets l o x
+pasted l o k x y e q h = put_mid-paste o k l y x (length x) e (sym q) refl ∙ rw (take-length x) (sym (sets-eq x l o h))
 
-pub three : (l : List ℕ) (o a b c : ℕ) → Emits l (set (set (set l o a) (o + 1) b) (o + 2) c) o (o + 3) (a ∷ b ∷ c ∷ [])
-three l o a b c = let e : o + 2 ≡ suc (suc o) = omega arith in record { is = rw (add-one o, e); next = refl }
-
-pub five : (l : List ℕ) (o a b c d e : ℕ) → Emits l (set (set (set (set (set l o a) (o + 1) b) (o + 2) c) (o + 3) d) (o + 4) e) o (o + 5) (a ∷ b ∷ c ∷ d ∷ e ∷ [])
-five l o a b c d e =
-    let p : o + 2 ≡ suc (suc o) = omega arith in
-    let q : o + 3 ≡ suc (suc (suc o)) = omega arith in
-    let r : o + 4 ≡ suc (suc (suc (suc o))) = omega arith in
-    record { is = rw (add-one o, p, q, r); next = refl }
+-- the first four bytes of a number
+pub four-bytes : (n : ℕ) (b : List ℕ) → b ≡ to_le_bytes w64 n → get_or b 0 0 ∷ get_or b 1 0 ∷ get_or b 2 0 ∷ get_or b 3 0 ∷ [] ≡ four n
+unfolding four
+four-bytes n b e =
+    let p : get_or b 0 0 ≡ n % 256 = rw e (omega arith) in
+    let q : get_or b 1 0 ≡ n / 256 % 256 = rw e (omega arith) in
+    let r : get_or b 2 0 ≡ n / 256 / 256 % 256 = rw e (omega arith) in
+    let s : get_or b 3 0 ≡ n / 256 / 256 / 256 % 256 = rw e (omega arith) in
+    cc

@@ -13,8 +13,9 @@ use Rattle.book.specs.Accepted.{FineTypes, FineTerm, FineRights, FineTree, FineT
 use Rattle.engine.specs.Code.{emit, go}
 use Rattle.engine.specs.Compile.{Positions, compile, of_rights, of_tree, of_trees, offsets, flat}
 use Rattle.compiler.specs.Records.{types_recs, Rcd, a_type, a_cons, a_func, a_split, a_rule, a_right, a_symbol, a_slot, a_fresh, a_none, bytes_of, bytes, term_recs, rights_recs, tree_recs, trees_recs}
-use Rattle.compiler.specs.Rows.{Rows, Lore, row, load_body}
+use Rattle.compiler.specs.Rows.{Rows, LoreIs, row, load_body}
 use Rattle.compiler.specs.declared.Ends.{Ends}
+use Rattle.compiler.specs.declared.Lore.{Lore}
 
 -- a record of a type that exists
 abbrev pub FineRcd : List (List ℕ) → Rcd → Type 0
@@ -30,27 +31,27 @@ FineRcd types (a_fresh v) = Unit {0}
 FineRcd types a_none = Unit {0}
 
 -- a record stands at place k
-pub record RcdHere (s lore : List ℕ) (k : ℕ) : Type 0 where
+pub record RcdHere (s : List ℕ) (lore : Lore) (k : ℕ) : Type 0 where
   pub types : List (List ℕ)
   pub funcs : List ℕ
-  pub told : Lore types funcs lore
+  pub told : LoreIs types funcs lore
   pub rcd : Rcd
   pub rest : List ℕ
   pub is : drop k s ≡ bytes_of rcd ++ rest
   pub fine : FineRcd types rcd
 
 -- an accepted book and its lore
-pub record Surveyed (s lore : List ℕ) : Type 0 where
+pub record Surveyed (s : List ℕ) (lore : Lore) : Type 0 where
   pub book : Book
   pub end : ℕ
   pub is : read_book s ≡ got book end
-  pub told : Lore book.types (map arity book.funcs) lore
+  pub told : LoreIs book.types (map arity book.funcs) lore
 
 -- a term stands at place k
-pub record TermHere (s lore : List ℕ) (k : ℕ) : Type 0 where
+pub record TermHere (s : List ℕ) (lore : Lore) (k : ℕ) : Type 0 where
   pub types : List (List ℕ)
   pub funcs : List ℕ
-  pub told : Lore types funcs lore
+  pub told : LoreIs types funcs lore
   pub slots : ℕ
   pub vars : ℕ
   pub term : Term
@@ -59,10 +60,10 @@ pub record TermHere (s lore : List ℕ) (k : ℕ) : Type 0 where
   pub fine : FineTerm (con_arities types) funcs slots vars term
 
 -- n RIGHTs stand at place k, and their code has room from o on
-pub record RightsHere (s lore rows : List ℕ) (k n o : ℕ) (code : List ℕ) : Type 0 where
+pub record RightsHere (s : List ℕ) (lore : Lore) (rows : List ℕ) (k n o : ℕ) (code : List ℕ) : Type 0 where
   pub types : List (List ℕ)
   pub funcs : List ℕ
-  pub told : Lore types funcs lore
+  pub told : LoreIs types funcs lore
   pub pos : Positions
   pub are : Rows rows pos
   pub rights : List Right
@@ -73,7 +74,7 @@ pub record RightsHere (s lore rows : List ℕ) (k n o : ℕ) (code : List ℕ) :
   pub fits : o + length (emit (of_rights pos rights)) ≤ length code
 
 -- they are passed, and their code is written
-pub record RightsDone {s lore rows : List ℕ} {k n o : ℕ} {code : List ℕ} (x : RightsHere s lore rows k n o code) (code' : List ℕ) (r : Ends) : Type 0 where
+pub record RightsDone {s : List ℕ} {lore : Lore} {rows : List ℕ} {k n o : ℕ} {code : List ℕ} (x : RightsHere s lore rows k n o code) (code' : List ℕ) (r : Ends) : Type 0 where
   pub at : r.at ≡ k + length (bytes (rights_recs x.rights))
   pub out : r.out ≡ o + length (emit (of_rights x.pos x.rights))
   pub is : code' ≡ sets code o (emit (of_rights x.pos x.rights))
@@ -84,10 +85,10 @@ pub record Match (slots : Slots) (pos : Positions) : Type 0 where
   pub each : (i : ℕ) → get_or slots i 8 < 8 → length (get_or pos i []) ≡ get_or slots i 8
 
 -- a tree stands at place k, and its code has room from o on
-pub record TreeHere (s lore rows : List ℕ) (n k o : ℕ) (code : List ℕ) : Type 0 where
+pub record TreeHere (s : List ℕ) (lore : Lore) (rows : List ℕ) (n k o : ℕ) (code : List ℕ) : Type 0 where
   pub types : List (List ℕ)
   pub funcs : List ℕ
-  pub told : Lore types funcs lore
+  pub told : LoreIs types funcs lore
   pub slots : Slots
   pub pos : Positions
   pub match : Match slots pos
@@ -99,16 +100,16 @@ pub record TreeHere (s lore rows : List ℕ) (n k o : ℕ) (code : List ℕ) : T
   pub fine : FineTree types funcs slots tree
   pub fits : o + length (emit (of_tree types tree pos o)) ≤ length code
 
-pub record TreeDone {s lore rows : List ℕ} {n k o : ℕ} {code : List ℕ} (x : TreeHere s lore rows n k o code) (code' : List ℕ) (r : Ends) : Type 0 where
+pub record TreeDone {s : List ℕ} {lore : Lore} {rows : List ℕ} {n k o : ℕ} {code : List ℕ} (x : TreeHere s lore rows n k o code) (code' : List ℕ) (r : Ends) : Type 0 where
   pub at : r.at ≡ k + length (bytes (tree_recs x.tree))
   pub out : r.out ≡ o + length (emit (of_tree x.types x.tree x.pos o))
   pub is : code' ≡ sets code o (emit (of_tree x.types x.tree x.pos o))
 
 -- Children stand at place k, one for each of the m arities from constructor c on, under a SPLIT of slot i; their code has room from o on and their GOs from g on.
-pub record TreesHere (s lore rows : List ℕ) (n i c m k g o : ℕ) (code : List ℕ) : Type 0 where
+pub record TreesHere (s : List ℕ) (lore : Lore) (rows : List ℕ) (n i c m k g o : ℕ) (code : List ℕ) : Type 0 where
   pub types : List (List ℕ)
   pub funcs : List ℕ
-  pub told : Lore types funcs lore
+  pub told : LoreIs types funcs lore
   pub slots : Slots
   pub pos : Positions
   pub match : Match slots pos
@@ -118,7 +119,7 @@ pub record TreesHere (s lore rows : List ℕ) (n i c m k g o : ℕ) (code : List
   pub short : get_or slots i 8 < 8
   pub arities : List ℕ
   pub count : length arities ≡ m
-  pub same : (j : ℕ) → j < m → get_or lore (c + j) 0 ≡ get_or arities j 0
+  pub same : (j : ℕ) → j < m → get_or lore.cons (c + j) 0 ≡ get_or arities j 0
   pub low : (j : ℕ) → get_or arities j 0 ≤ 8
   pub cons : c + m ≤ 256
   pub room : all_fit n arities ≡ true
@@ -129,7 +130,7 @@ pub record TreesHere (s lore rows : List ℕ) (n i c m k g o : ℕ) (code : List
   pub before : g + 5 * m ≤ o
   pub fits : o + length (emit (flat (of_trees types trees arities pos i o))) ≤ length code
 
-pub record TreesDone {s lore rows : List ℕ} {n i c m k g o : ℕ} {code : List ℕ} (x : TreesHere s lore rows n i c m k g o code) (code' : List ℕ) (r : Ends) : Type 0 where
+pub record TreesDone {s : List ℕ} {lore : Lore} {rows : List ℕ} {n i c m k g o : ℕ} {code : List ℕ} (x : TreesHere s lore rows n i c m k g o code) (code' : List ℕ) (r : Ends) : Type 0 where
   pub at : r.at ≡ k + length (bytes (trees_recs x.trees))
   pub out : r.out ≡ o + length (emit (flat (of_trees x.types x.trees x.arities x.pos i o)))
   pub is : code' ≡ sets (sets code g (emit (map go (offsets o (of_trees x.types x.trees x.arities x.pos i o))))) o (emit (flat (of_trees x.types x.trees x.arities x.pos i o)))
@@ -140,12 +141,13 @@ pub record TypesKnown (s : List ℕ) (n : ℕ) : Type 0 where
   pub many : length (types_of s) ≡ n
   pub fine : FineTypes (types_of s)
 
--- each type's first constructor and count are noted in the lore; what is before them stays
-pub record TypesNoted (s lore lore' : List ℕ) (n : ℕ) : Type 0 where
-  pub long : length lore' ≡ length lore
-  pub firsts : (t : ℕ) → t < n → get_or lore' (512 + t) 0 ≡ first_con (types_of s) t
-  pub counts : (t : ℕ) → t < n → get_or lore' (576 + t) 0 ≡ length (cons_of (types_of s) t)
-  pub same : (i : ℕ) → i < 512 → get_or lore' i 0 ≡ get_or lore i 0
+-- each type's first constructor and count are noted in the lore; the rest stays
+pub record TypesNoted (s : List ℕ) (lore lore' : Lore) (n : ℕ) : Type 0 where
+  pub sizes : lore'.sizes ≡ lore.sizes
+  pub cons : lore'.cons ≡ lore.cons
+  pub funcs : lore'.funcs ≡ lore.funcs
+  pub firsts : (t : ℕ) → t < n → get_or lore'.firsts t 0 ≡ first_con (types_of s) t
+  pub counts : (t : ℕ) → t < n → get_or lore'.counts t 0 ≡ length (cons_of (types_of s) t)
 
 -- a function's start, by the words of the tables
 abbrev pub start_at : List ℕ → ℕ → ℕ
@@ -159,11 +161,11 @@ pub record Started (w w' : List ℕ) (f start : ℕ) : Type 0 where
   pub behind : (i : ℕ) → 512 ≤ i → get_or w' i 0 ≡ get_or w i 0
 
 -- What the functions' code is written over: the book with its lore, the place of the first FUNC, empty position in row 255, tables, and room for the code.
-pub record FuncsHere (s lore rows w : List ℕ) (from : ℕ) (code : List ℕ) : Type 0 where
+pub record FuncsHere (s : List ℕ) (lore : Lore) (rows w : List ℕ) (from : ℕ) (code : List ℕ) : Type 0 where
   pub book : Book
   pub end : ℕ
   pub is : read_book s ≡ got book end
-  pub told : Lore book.types (map arity book.funcs) lore
+  pub told : LoreIs book.types (map arity book.funcs) lore
   pub start : from ≡ length (bytes (types_recs book.types))
   pub long : length rows ≡ 2304
   pub empty : row rows 255 ≡ load_body []
@@ -172,7 +174,7 @@ pub record FuncsHere (s lore rows w : List ℕ) (from : ℕ) (code : List ℕ) :
   pub small : length (compile book).code ≤ 262144
 
 -- the code stands at the start of the code room, the rest as lent; and the starts are noted
-pub record FuncsDone {s lore rows w : List ℕ} {from : ℕ} {code : List ℕ} (x : FuncsHere s lore rows w from code) (w' code' : List ℕ) : Type 0 where
+pub record FuncsDone {s : List ℕ} {lore : Lore} {rows w : List ℕ} {from : ℕ} {code : List ℕ} (x : FuncsHere s lore rows w from code) (w' code' : List ℕ) : Type 0 where
   pub is : code' ≡ sets code 0 (compile x.book).code
   pub long : length w' ≡ length w
   pub starts : (f : ℕ) → f < length x.book.funcs → start_at w' f ≡ get_or (compile x.book).starts f 0

@@ -1,5 +1,5 @@
 -- What the compiler's own tables hold, and the code that it makes of single records.
--- Here, in order: rows of positions; the lore of a book; the code of a term's records, last to first; bytes written.
+-- Here, in order: rows of positions; what the lore of a book says; the code of a term's records, last to first; bytes written.
 -- Not here: what stands in the book at a place (Here).
 -- Assumes nothing.
 use Rattle.std.specs.Prelude.{ℕ, zero, suc, ◌+◌, ◌*◌, ◌≤◌, ◌<◌, List, [], ◌∷◌, ◌++◌, true, false, ◌≡◌, ◌⊎◌, length, get_or, take, drop, replicate, eqb, ltb}
@@ -9,6 +9,7 @@ use Rattle.book.specs.Syntax.{con_arities, cons_of, first_con}
 use Rattle.book.specs.Accepted.{FineTypes}
 use Rattle.engine.specs.Code.{four}
 use Rattle.engine.specs.Compile.{Positions}
+use Rattle.compiler.specs.declared.Lore.{Lore}
 
 -- a LOAD's body: the position's length and 8 steps, the rest 0
 abbrev pub load_body : List ℕ → List ℕ
@@ -43,18 +44,18 @@ pub record Grown (rows rows' : List ℕ) (slot n a : ℕ) : Type 0 where
   pub are : (p : List ℕ) → row rows slot ≡ load_body p → (j : ℕ) → j < a → row rows' (n + j) ≡ load_body (p ++ (j + 1) ∷ [])
   pub same : (i : ℕ) → i < 256 → (i < n) ⊎ (n + a ≤ i) → row rows' i ≡ row rows i
 
--- The lore of a book: bytes 0..256 the arities of constructors, 256..512 of functions, 512..576 the first constructor of each type, 576..640 how many it has.
-pub record Lore (types : List (List ℕ)) (funcs : List ℕ) (lore : List ℕ) : Type 0 where
-  pub long : length lore ≡ 640
+-- The lore is that of a book with these types and functions.
+pub record LoreIs (types : List (List ℕ)) (funcs : List ℕ) (lore : Lore) : Type 0 where
+  pub long : length lore.cons ≡ 256
   pub fine : FineTypes types
-  pub con_ars : (c : ℕ) → c < length (con_arities types) → get_or lore c 0 ≡ get_or (con_arities types) c 0
-  pub fun_ars : (f : ℕ) → f < length funcs → get_or lore (256 + f) 0 ≡ get_or funcs f 0
-  pub firsts : (t : ℕ) → t < length types → get_or lore (512 + t) 0 ≡ first_con types t
-  pub counts : (t : ℕ) → t < length types → get_or lore (576 + t) 0 ≡ length (cons_of types t)
+  pub con_ars : (c : ℕ) → c < length (con_arities types) → get_or lore.cons c 0 ≡ get_or (con_arities types) c 0
+  pub fun_ars : (f : ℕ) → f < length funcs → get_or lore.funcs f 0 ≡ get_or funcs f 0
+  pub firsts : (t : ℕ) → t < length types → get_or lore.firsts t 0 ≡ first_con types t
+  pub counts : (t : ℕ) → t < length types → get_or lore.counts t 0 ≡ length (cons_of types t)
 
 -- how many terms follow a term's record
-unfoldable pub args_at : List ℕ → ℕ → ℕ → ℕ
-args_at lore kind n = elim (eqb kind 7) [ true ↦ get_or lore n 0 | false ↦ elim (eqb kind 8) [ true ↦ get_or lore (256 + n) 0 | false ↦ 0 ] ]
+unfoldable pub args_at : Lore → ℕ → ℕ → ℕ
+args_at lore kind n = elim (eqb kind 7) [ true ↦ get_or lore.cons n 0 | false ↦ elim (eqb kind 8) [ true ↦ get_or lore.funcs n 0 | false ↦ 0 ] ]
 
 -- the code of one record of a term
 unfoldable pub num_code : List ℕ → ℕ → ℕ → List ℕ
@@ -83,9 +84,9 @@ arm_code c [] = 0x3A ∷ []
 arm_code c (a ∷ more) = replicate a 0x35 ++ 0x38 ∷ 0 ∷ c ∷ arm_code (suc c) more
 
 -- a SPLIT's LOAD, BRANCH and first GO from o on, and its variable's arm behind the other GOs
-pub record Fronts (lore rows l l' : List ℕ) (slot ty c m o r : ℕ) : Type 0 where
-  pub is : l' ≡ sets (sets l o ((0x30 ∷ row rows slot) ++ 0x31 ∷ ty ∷ 0x32 ∷ four (o + 17 + 5 * m))) (o + 17 + 5 * m) (arm_code c (take m (drop c lore)))
-  pub next : r ≡ o + 17 + 5 * m + length (arm_code c (take m (drop c lore)))
+pub record Fronts (lore : Lore) (rows l l' : List ℕ) (slot ty c m o r : ℕ) : Type 0 where
+  pub is : l' ≡ sets (sets l o ((0x30 ∷ row rows slot) ++ 0x31 ∷ ty ∷ 0x32 ∷ four (o + 17 + 5 * m))) (o + 17 + 5 * m) (arm_code c (take m (drop c lore.cons)))
+  pub next : r ≡ o + 17 + 5 * m + length (arm_code c (take m (drop c lore.cons)))
 
 -- bytes written from place o on, and the place after them
 pub record Emits (l l' : List ℕ) (o r : ℕ) (x : List ℕ) : Type 0 where
@@ -105,11 +106,11 @@ width_at kind = elim (eqb kind 4) [ true ↦ 3 | false ↦ elim (eqb kind 11) [ 
 
 -- the length of the arm of n constructors from number c on
 unfoldable pub arm_at : List ℕ → ℕ → ℕ → ℕ
-arm_at lore c n = arm_cost (take n (drop c lore))
+arm_at cons c n = arm_cost (take n (drop c cons))
 
 -- how many bytes of code a SPLIT of a type brings
-unfoldable pub split_at : List ℕ → ℕ → ℕ
-split_at lore t = 12 + 5 * (get_or lore (576 + t) 0 + 1) + arm_at lore (get_or lore (512 + t) 0) (get_or lore (576 + t) 0)
+unfoldable pub split_at : Lore → ℕ → ℕ
+split_at lore t = 12 + 5 * (get_or lore.counts t 0 + 1) + arm_at lore.cons (get_or lore.firsts t 0) (get_or lore.counts t 0)
 
 -- how many bytes of code another record brings, by its kind and its first number
 unfoldable pub cost_at : ℕ → ℕ → ℕ

@@ -1,7 +1,7 @@
 -- What the machine reads beside the code: the words of its tables; and what the compiler answers.
 -- Here, in order: the tables; a constructor's home; parts of the tables noted; the lore surveyed; the answer.
 -- Assumes nothing.
-use Rattle.std.specs.Prelude.{ℕ, zero, suc, ◌+◌, ◌*◌, ◌≤◌, ◌<◌, List, ◌++◌, map, ◌⊎◌, ◌≡◌, length, get_or, drop}
+use Rattle.std.specs.Prelude.{ℕ, zero, suc, ◌+◌, ◌*◌, ◌≤◌, ◌<◌, List, ◌++◌, map, ◌⊎◌, ◌≡◌, length, get_or, drop, Result, Ok, Err}
 use Rattle.std.proofs.Math.Option.{some}
 use Rattle.std.proofs.Math.ListN.{get_elem?}
 use Rattle.std.proofs.lemmas.List.Edits.{sets}
@@ -10,14 +10,14 @@ use Rattle.book.specs.Syntax.{arity, Book, con_arities, cons_of, first_con}
 use Rattle.book.specs.Record.{got, fault}
 use Rattle.book.specs.Reading.{read_book}
 use Rattle.book.specs.Steps.{types_of, Front}
-use Rattle.book.specs.declared.Read.{Read}
-use Rattle.book.specs.declared.Read.TheVariants as read
+use Rattle.book.specs.declared.Fault.{Fault}
 use Rattle.engine.specs.Compile.{Program, compile}
 use Rattle.engine.specs.Machine.{homes}
-use Rattle.compiler.specs.Rows.{Lore}
+use Rattle.compiler.specs.Rows.{LoreIs}
 use Rattle.compiler.specs.Here.{start_at}
-use Rattle.compiler.specs.declared.Compiled.{Compiled}
-use Rattle.compiler.specs.declared.Compiled.TheVariants.{Fits, TooLong, Fault}
+use Rattle.compiler.specs.declared.Lore.{Lore}
+use Rattle.compiler.specs.declared.Refused.{Refused}
+use Rattle.compiler.specs.declared.Refused.TheVariants as refused
 
 -- Words 0..512 are the starts of functions, low word and high word each; 512..768 their arities; 768..1024 the arities of constructors; 1024..1280 each constructor's type; 1280..1536 its arm there.
 pub record Tables (m : Program) (w : List ℕ) : Type 0 where
@@ -33,15 +33,15 @@ pub record HomeOf (types : List (List ℕ)) (c t j : ℕ) : Type 0 where
   pub is : first_con types t + j ≡ c
 
 -- the arities of n functions are noted
-pub record FunsNoted (lore w w' : List ℕ) (n : ℕ) : Type 0 where
+pub record FunsNoted (lore : Lore) (w w' : List ℕ) (n : ℕ) : Type 0 where
   pub long : length w' ≡ length w
-  pub are : (f : ℕ) → f < n → get_or w' (512 + f) 0 ≡ get_or lore (256 + f) 0
+  pub are : (f : ℕ) → f < n → get_or w' (512 + f) 0 ≡ get_or lore.funcs f 0
   pub same : (i : ℕ) → (i < 512) ⊎ (768 ≤ i) → get_or w' i 0 ≡ get_or w i 0
 
 -- the arities and the homes of n constructors are noted
-pub record ConsNoted (s lore w w' : List ℕ) (n : ℕ) : Type 0 where
+pub record ConsNoted (s : List ℕ) (lore : Lore) (w w' : List ℕ) (n : ℕ) : Type 0 where
   pub long : length w' ≡ length w
-  pub are : (c : ℕ) → c < n → get_or w' (768 + c) 0 ≡ get_or lore c 0
+  pub are : (c : ℕ) → c < n → get_or w' (768 + c) 0 ≡ get_or lore.cons c 0
   pub homes : (c : ℕ) → c < n → HomeOf (types_of s) c (get_or w' (1024 + c) 0) (get_or w' (1280 + c) 0)
   pub same : (i : ℕ) → (i < 768) ⊎ (1536 ≤ i) → get_or w' i 0 ≡ get_or w i 0
 
@@ -53,32 +53,32 @@ pub record ConsKnown (s : List ℕ) (n : ℕ) : Type 0 where
   pub each : (t : ℕ) → t < length (types_of s) → length (cons_of (types_of s) t) ≤ 32
 
 -- the place after n types, by the lore's counts
-unfoldable pub front_at : List ℕ → ℕ → ℕ
+unfoldable pub front_at : Lore → ℕ → ℕ
 front_at lore zero = 0
-front_at lore (suc n) = front_at lore n + (2 * get_or lore (576 + n) 0 + 2)
+front_at lore (suc n) = front_at lore n + (2 * get_or lore.counts n 0 + 2)
 
--- an accepted book, its lore, and how many types, constructors and functions it has
-pub record BookKnown (s lore : List ℕ) (n nc nf : ℕ) : Type 0 where
+-- an accepted book and its lore
+pub record BookKnown (s : List ℕ) (lore : Lore) : Type 0 where
   pub book : Book
   pub end : ℕ
   pub is : read_book s ≡ got book end
-  pub front : Front s n
+  pub front : Front s lore.sizes.types
   pub types_are : types_of s ≡ book.types
-  pub told : Lore book.types (map arity book.funcs) lore
-  pub types : length book.types ≡ n
-  pub cons : length (con_arities book.types) ≡ nc
-  pub funs : length book.funcs ≡ nf
+  pub told : LoreIs book.types (map arity book.funcs) lore
+  pub types : length book.types ≡ lore.sizes.types
+  pub cons : length (con_arities book.types) ≡ lore.sizes.cons
+  pub funs : length book.funcs ≡ lore.sizes.funcs
 
 -- its code is written from the start on, and the tables are filled
-pub record BookDone {s lore : List ℕ} {n nc nf : ℕ} (x : BookKnown s lore n nc nf) (w w' code code' : List ℕ) : Type 0 where
+pub record BookDone {s : List ℕ} {lore : Lore} (x : BookKnown s lore) (w w' code code' : List ℕ) : Type 0 where
   pub is : code' ≡ sets code 0 (compile x.book).code
   pub tables : Tables (compile x.book) w'
   pub behind : (i : ℕ) → 1536 ≤ i → get_or w' i 0 ≡ get_or w i 0
 
 -- what surveying a book answers
-unfoldable pub SurveyIs : List ℕ → List ℕ → Read → Type 0
-SurveyIs s lore (read.Book n nc nf) = BookKnown s lore n nc nf
-SurveyIs s lore (read.Fault w p) = read_book s ≡ fault w p
+unfoldable pub SurveyIs : List ℕ → Result Lore Fault → Type 0
+SurveyIs s (Ok lore) = BookKnown s lore
+SurveyIs s (Err f) = read_book s ≡ fault f.sort f.at
 
 -- The book is accepted and its code fits: the code stands at the start of the code memory, the rest as lent, and the tables are as the machine needs them.
 pub record DoesFit (s : List ℕ) (room : ℕ) (tables tables' code code' : List ℕ) (n : ℕ) : Type 0 where
@@ -102,7 +102,7 @@ pub record IsTooLong (s : List ℕ) (room : ℕ) (tables tables' code code' : Li
   pub code-kept : code' ≡ code
 
 -- what the compiler answers
-unfoldable pub CompiledIs : List ℕ → ℕ → List ℕ → List ℕ → List ℕ → List ℕ → Compiled → Type 0
-CompiledIs s room tables tables' code code' (Fits n) = DoesFit s room tables tables' code code' n
-CompiledIs s room tables tables' code code' (TooLong n) = IsTooLong s room tables tables' code code' n
-CompiledIs s room tables tables' code code' (Fault w p) = (read_book s ≡ fault w p) × (tables' ≡ tables) × (code' ≡ code)
+unfoldable pub CompiledIs : List ℕ → ℕ → List ℕ → List ℕ → List ℕ → List ℕ → Result ℕ Refused → Type 0
+CompiledIs s room tables tables' code code' (Ok n) = DoesFit s room tables tables' code code' n
+CompiledIs s room tables tables' code code' (Err (refused.TooLong n)) = IsTooLong s room tables tables' code code' n
+CompiledIs s room tables tables' code code' (Err (refused.Fault f)) = (read_book s ≡ fault f.sort f.at) × (tables' ≡ tables) × (code' ≡ code)

@@ -4,7 +4,8 @@
 ghost use Rattle.std.specs.Prelude.{◌≡◌, [], ◌∷◌, ◌++◌, ◌+◌, ◌*◌, ◌<◌, ◌≤◌, length, take, drop, replicate};
 ghost use Rattle.compiler.specs.Rows.{arm_code, Emits, Fronts};
 
-use crate::code::{put_go, put1, put2, put3};
+use crate::Lore;
+use crate::code::{BRANCH, MAKEANON, MAKETERM, NARROW, put, put_go};
 use crate::position::put_load;
 
 // As many MAKEANONs as a constructor has arguments, then the MAKETERM.
@@ -12,36 +13,30 @@ fn put_instance(a: u8, c: u8, code: &mut [u8], o: usize) -> usize
     requires { o + (a + 3) ≤ length code.old }
     ensures { Emits code.old code.new o result (replicate a 0x35 ++ 0x38 ∷ 0 ∷ c ∷ []) }
 {
-    let mut left = a;
     let mut out = o;
-    while 0 < left {
-        out = put1(code, out, 0x35);
-        left -= 1;
+    for _ in 0..a {
+        out = put(code, out, &[MAKEANON]);
     }
-    put3(code, out, 0x38, 0, c)
+    put(code, out, &[MAKETERM, 0, c])
 }
 
 // A variable's arm, for n constructors from number c on.
-fn put_arm(lore: &[u8], c: usize, n: usize, code: &mut [u8], o: usize) -> usize
-    requires lore_len { (length lore.now ≡ 640) × (c + n ≤ 256) }
-    requires lore_in_bounds { o + length (arm_code c (take n (drop c lore.now))) ≤ length code.old }
-    ensures { Emits code.old code.new o result (arm_code c (take n (drop c lore.now))) }
+fn put_arm(lore: &Lore, c: usize, n: usize, code: &mut [u8], o: usize) -> usize
+    requires cons_in_bounds { c + n ≤ 256 }
+    requires code_in_bounds { o + length (arm_code c (take n (drop c lore.now.cons))) ≤ length code.old }
+    ensures { Emits code.old code.new o result (arm_code c (take n (drop c lore.now.cons))) }
 {
-    let mut con = c;
-    let mut left = n;
     let mut out = o;
-    while 0 < left {
-        out = put_instance(lore[con], con as u8, code, out);
-        con += 1;
-        left -= 1;
+    for con in c..c + n {
+        out = put_instance(lore.cons[con], con as u8, code, out);
     }
-    put1(code, out, 0x3A)
+    put(code, out, &[NARROW])
 }
 
 // A SPLIT's LOAD, BRANCH and first GO, and its variable's arm; the children's GOs stand between.
 pub fn put_front(
-    lore: &[u8],
-    rows: &[u8],
+    lore: &Lore,
+    rows: &[u8; 2304],
     slot: usize,
     ty: u8,
     c: usize,
@@ -49,13 +44,13 @@ pub fn put_front(
     code: &mut [u8],
     o: usize,
 ) -> usize
-    requires rows_len { (length rows.now ≡ 2304) × (slot < 256) }
-    requires lore_len { (length lore.now ≡ 640) × (c + m ≤ 256) }
-    requires lore_in_bounds { o + 17 + 5 * m + length (arm_code c (take m (drop c lore.now))) ≤ length code.old }
+    requires slot_in_bounds { slot < 256 }
+    requires cons_in_bounds { c + m ≤ 256 }
+    requires code_in_bounds { o + 17 + 5 * m + length (arm_code c (take m (drop c lore.now.cons))) ≤ length code.old }
     ensures { Fronts lore.now rows.now code.old code.new slot ty c m o result }
 {
     let p = put_load(rows, slot, code, o);
-    let g = put2(code, p, 0x31, ty);
+    let g = put(code, p, &[BRANCH, ty]);
     let arm = g + 5 + 5 * m;
     put_go(code, g, arm);
     put_arm(lore, c, m, code, arm)

@@ -1,45 +1,45 @@
 // Code bytes, written one behind the other. A function answers the place behind what it wrote.
-// Here, in order: a byte as a number; one, two and three bytes; a GO.
+// Here, in order: the kinds of code records; bytes; a GO.
 // Not here: LOAD (position), what is written for which record (term, rule, arm, tree).
-ghost use Rattle.std.specs.Prelude.{◌≡◌, [], ◌∷◌, ◌+◌, ◌≤◌, length};
+ghost use Rattle.std.specs.Prelude.{◌≡◌, ◌∷◌, ◌+◌, ◌≤◌, length};
 ghost use Rattle.engine.specs.Code.{four};
 ghost use Rattle.compiler.specs.Rows.{Emits};
 
-// A byte as a number.
-pub fn wide(x: u8) -> usize
-    ensures { result ≡ x }
-{
-    x as usize
-}
+// A code record's first byte, its kind.
+pub const LOAD: u8 = 0x30;
 
-// One byte of code.
-pub fn put1(code: &mut [u8], o: usize, a: u8) -> usize
-    requires { o + 1 ≤ length code.old }
-    ensures { Emits code.old code.new o result (a ∷ []) }
-{
-    code[o] = a;
-    o + 1
-}
+pub const BRANCH: u8 = 0x31;
 
-// Two bytes.
-pub fn put2(code: &mut [u8], o: usize, a: u8, b: u8) -> usize
-    requires { o + 2 ≤ length code.old }
-    ensures { Emits code.old code.new o result (a ∷ b ∷ []) }
-{
-    code[o] = a;
-    code[o + 1] = b;
-    o + 2
-}
+pub const GO: u8 = 0x32;
 
-// Three bytes.
-pub fn put3(code: &mut [u8], o: usize, a: u8, b: u8, c: u8) -> usize
-    requires { o + 3 ≤ length code.old }
-    ensures { Emits code.old code.new o result (a ∷ b ∷ c ∷ []) }
+pub const PUSH: u8 = 0x33;
+
+pub const POP: u8 = 0x34;
+
+pub const MAKEANON: u8 = 0x35;
+
+pub const STOREVAR: u8 = 0x36;
+
+pub const MAKEVAR: u8 = 0x37;
+
+pub const MAKETERM: u8 = 0x38;
+
+pub const REPLACE: u8 = 0x39;
+
+pub const NARROW: u8 = 0x3A;
+
+pub const CHOICE: u8 = 0x3B;
+
+pub const FAIL: u8 = 0x3C;
+
+// Bytes of code.
+pub fn put(code: &mut [u8], o: usize, bytes: &[u8]) -> usize
+    requires { o + length bytes.now ≤ length code.old }
+    ensures { Emits code.old code.new o result bytes.now }
 {
-    code[o] = a;
-    code[o + 1] = b;
-    code[o + 2] = c;
-    o + 3
+    let end = o + bytes.len();
+    code[o..end].copy_from_slice(bytes);
+    end
 }
 
 // A GO to a place of the code.
@@ -47,10 +47,6 @@ pub fn put_go(code: &mut [u8], o: usize, to: usize) -> usize
     requires { o + 5 ≤ length code.old }
     ensures { Emits code.old code.new o result (0x32 ∷ four to) }
 {
-    code[o] = 0x32;
-    code[o + 1] = (to % 256) as u8;
-    code[o + 2] = (to / 256 % 256) as u8;
-    code[o + 3] = (to / 256 / 256 % 256) as u8;
-    code[o + 4] = (to / 256 / 256 / 256 % 256) as u8;
-    o + 5
+    let [a, b, c, d, ..] = to.to_le_bytes();
+    put(code, o, &[GO, a, b, c, d])
 }

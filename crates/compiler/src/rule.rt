@@ -5,20 +5,18 @@ ghost use Rattle.std.specs.Prelude.{◌≡◌, ◌+◌, ◌*◌, ◌≤◌, leng
 ghost use Rattle.compiler.specs.Rows.{vars_code, Emits};
 ghost use Rattle.compiler.specs.Here.{RightsHere, RightsDone, TreeHere, TreeDone};
 
-use crate::Ends;
-use crate::code::{put1, put2, wide};
+use crate::code::{CHOICE, POP, REPLACE, STOREVAR, put};
 use crate::term::{put_term, term_size};
+use crate::{Ends, Lore};
 
 // A STOREVAR for each of v variables.
 fn put_vars(v: u8, code: &mut [u8], o: usize) -> usize
     requires { o + 2 * v ≤ length code.old }
     ensures { Emits code.old code.new o result (vars_code v) }
 {
-    let mut i: u8 = 0;
     let mut out = o;
-    while i < v {
-        out = put2(code, out, 0x36, i);
-        i += 1;
+    for i in 0..v {
+        out = put(code, out, &[STOREVAR, i]);
     }
     out
 }
@@ -26,8 +24,8 @@ fn put_vars(v: u8, code: &mut [u8], o: usize) -> usize
 // n RIGHTs and their code: a STOREVAR for each variable, then the term.
 fn put_rights(
     s: &[u8],
-    lore: &[u8],
-    rows: &[u8],
+    lore: &Lore,
+    rows: &[u8; 2304],
     from: usize,
     n: usize,
     code: &mut [u8],
@@ -37,16 +35,14 @@ fn put_rights(
     ensures { (x : RightsHere s.now lore.now rows.now from n o code.old) → RightsDone x code.new result }
 {
     let mut at = from;
-    let mut left = n;
     let mut out = o;
-    while 0 < left {
+    for _ in 0..n {
         let v = s[at + 1];
         let k = at + 2;
         let size = term_size(s, lore, k);
         let p = put_vars(v, code, out);
         out = put_term(s, rows, k, size, code, p);
         at = k + 2 * size;
-        left -= 1;
     }
     Ends { at, out }
 }
@@ -54,8 +50,8 @@ fn put_rights(
 // A RULE: one RIGHT replaces the call, several are its alternatives.
 pub fn put_rule(
     s: &[u8],
-    lore: &[u8],
-    rows: &[u8],
+    lore: &Lore,
+    rows: &[u8; 2304],
     n: usize,
     at: usize,
     code: &mut [u8],
@@ -65,13 +61,11 @@ pub fn put_rule(
     ensures { (x : TreeHere s.now lore.now rows.now n at o code.old) → TreeDone x code.new result }
 {
     let k = s[at + 1];
-    let e = put_rights(s, lore, rows, at + 2, wide(k), code, o);
-    let end = e.at;
-    let out = e.out;
-    if k == 1 {
-        let p = put2(code, out, 0x34, 0x39);
-        return Ends { at: end, out: p };
-    }
-    let q = put1(code, out, 0x3B);
-    Ends { at: end, out: q }
+    let e = put_rights(s, lore, rows, at + 2, k as usize, code, o);
+    let out = if k == 1 {
+        put(code, e.out, &[POP, REPLACE])
+    } else {
+        put(code, e.out, &[CHOICE])
+    };
+    Ends { at: e.at, out }
 }

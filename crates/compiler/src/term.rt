@@ -6,61 +6,61 @@ ghost use Rattle.book.specs.Accepted.{records};
 ghost use Rattle.compiler.specs.Rows.{args_at, num_code, back, Emits};
 ghost use Rattle.compiler.specs.Here.{TermHere};
 
-use crate::code::{put1, put2, put3, wide};
+use crate::Lore;
+use crate::code::{MAKETERM, MAKEVAR, PUSH, put};
+use crate::kinds::{CALL, CON, FRESH};
 use crate::position::put_load;
 
 // The code of one record of a term.
-fn put_record(rows: &[u8], kind: u8, n: u8, code: &mut [u8], o: usize) -> usize
-    requires rows_len { length rows.now ≡ 2304 }
-    requires n_in_bounds { o + length (num_code rows.now kind n) ≤ length code.old }
+fn put_record(rows: &[u8; 2304], kind: u8, n: u8, code: &mut [u8], o: usize) -> usize
+    requires { o + length (num_code rows.now kind n) ≤ length code.old }
     ensures { Emits code.old code.new o result (num_code rows.now kind n) }
 {
-    if kind == 7 {
-        return put3(code, o, 0x38, 0, n);
+    match kind {
+        CON => put(code, o, &[MAKETERM, 0, n]),
+        CALL => put(code, o, &[MAKETERM, 1, n]),
+        FRESH => put(code, o, &[MAKEVAR, n]),
+        _ => {
+            let p = put_load(rows, n as usize, code, o);
+            put(code, p, &[PUSH])
+        }
     }
-    if kind == 8 {
-        return put3(code, o, 0x38, 1, n);
-    }
-    if kind == 10 {
-        return put2(code, o, 0x37, n);
-    }
-    let p = put_load(rows, wide(n), code, o);
-    put1(code, p, 0x33)
 }
 
 // The code of a term's n records from a place on: the last record's first, so the term is walked backwards.
-pub fn put_term(s: &[u8], rows: &[u8], from: usize, n: usize, code: &mut [u8], o: usize) -> usize
-    requires rows_len { (length rows.now ≡ 2304) × (from + 2 * n ≤ length s.now) }
+pub fn put_term(
+    s: &[u8],
+    rows: &[u8; 2304],
+    from: usize,
+    n: usize,
+    code: &mut [u8],
+    o: usize,
+) -> usize
+    requires s_in_bounds { from + 2 * n ≤ length s.now }
     requires n_in_bounds { o + length (back rows.now s.now from n) ≤ length code.old }
     ensures { Emits code.old code.new o result (back rows.now s.now from n) }
 {
-    let mut left = n;
     let mut out = o;
-    while 0 < left {
-        left -= 1;
-        let at = from + 2 * left;
+    for i in (0..n).rev() {
+        let at = from + 2 * i;
         out = put_record(rows, s[at], s[at + 1], code, out);
     }
     out
 }
 
 // How many terms follow a term's record.
-fn args_at(lore: &[u8], kind: u8, n: u8) -> usize
-    requires { length lore.now ≡ 640 }
+fn args_at(lore: &Lore, kind: u8, n: u8) -> usize
     ensures { result ≡ args_at lore.now kind n }
 {
-    let i = wide(n);
-    if kind == 7 {
-        return wide(lore[i]);
+    match kind {
+        CON => lore.cons[n as usize] as usize,
+        CALL => lore.funcs[n as usize] as usize,
+        _ => 0,
     }
-    if kind == 8 {
-        return wide(lore[256 + i]);
-    }
-    0
 }
 
 // How many records a term has, by the count of terms still due.
-pub fn term_size(s: &[u8], lore: &[u8], from: usize) -> usize
+pub fn term_size(s: &[u8], lore: &Lore, from: usize) -> usize
     requires { TermHere s.now lore.now from }
     ensures { (x : TermHere s.now lore.now from) → result ≡ records x.term }
 {

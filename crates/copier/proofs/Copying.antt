@@ -64,9 +64,6 @@ module _ {L made n to : ℕ} {s s' : List ℕ} (C : Copies L made n to s) where
     unfolding new_args
     new-same = ap (map (placed L made s')) same_args ∙ map_same (placed L made s') (placed L made s) (args (node (graph_of L s) n)) same-placed
 
-pub copies_as : {L made n m to : ℕ} {s : List ℕ} → n ≡ m → Copies L made m to s → Copies L made n to s
-copies_as {L} {made} {n} {m} {to} {s} e C = subst (λ (x : ℕ). Copies L made x to s) (sym e) C
-
 new-length : (L made n : ℕ) (s : List ℕ) → length (new_args L made n s) ≡ length (args (node (graph_of L s) n))
 unfolding new_args
 new-length L made n s = length-map (args (node (graph_of L s) n)) (placed L made s)

@@ -19,7 +19,7 @@ use Rattle.store.specs.Regions.{graph_of, list_of, places_of, Memory, Did, set_n
 use Rattle.copier.specs.Listed.{seen_in, Listed, Kept}
 use Rattle.copier.specs.Poured.{placed, Spots, Copies, renumbered, Closed, copied, laid_from, Emitted}
 use Rattle.copier.proofs.Sights.{place-mem}
-use Rattle.copier.proofs.Listing.{kept_refl, kept_then, length_seen}
+use Rattle.copier.proofs.Listing.{kept_then, length_seen}
 
 pub map-two : (f g h : ℕ → ℕ) (l : List ℕ) → ((x : ℕ) → Memᴰ x l → f x ≡ g (h x)) → map f l ≡ map g (map h l)
 map-two f g h [] e = refl
@@ -115,9 +115,6 @@ pub record Emits (L made : ℕ) (s₀ s : List ℕ) (l : List ℕ) (i : ℕ) : T
   pub is : laid (up_from made (length l)) (drop i (copied (graph_of L s₀) l)) (drop i (up_from made (length l))) (graph_of L s) ≡ laid_from made (graph_of L s₀) l
   pub like : Like L made s₀ s
   pub kept : Kept L s₀ s
-
-pub emits_none : (L made : ℕ) (s : List ℕ) (l : List ℕ) → Emits L made s s l 0
-emits_none L made s l = record { is = refl; like = like-refl L made s; kept = kept_refl L s }
 
 pub emits-step : (L made count i : ℕ) {s₀ s s' : List ℕ} → 16 * L ≤ length (words s₀) → Listed L count s₀ → Closed (graph_of L s₀) made (seen_in L count s₀) → i < count → Emits L made s₀ s (seen_in L count s₀) i
     → Did L s s' (set_node (made + i) (renumbered (placed L made s) (node (graph_of L s) (get_or (list_of L s) i 0)))) → Emits L made s₀ s' (seen_in L count s₀) (i + 1)

@@ -1,53 +1,41 @@
--- Laws in the very shape of what the code's steps need: arrays filled a word at a time, a node's arity, a place word, a node's arguments, the place words set back, the node written by what is seen.
+-- Laws in the very shape of what the code's steps need: a handle of an array, how many arguments a node has, a place word, a node's arguments, the place words set back, the node written by what is seen.
 -- Assumes nothing.
 use Prim.Native.Nat.{ℕ, suc, ◌+◌, ◌-◌, ◌*◌, ◌≤◌, ◌<◌}
 use native.Mathlib.Omega.{arith}
-use native.Mathlib.Decide.{dec_lt}
+use mathlib.Core.Logic.{◌⊎◌, inl, inr}
+use Rattle.std.proofs.lemmas.Bool.{cases_lt}
 use native.Mathlib.Numerals.{add-one}
 use mathlib.Core.Path.{◌≡◌, refl, sym, ap, ◌∙◌, subst}
-use mathlib.Core.List.{List, [], ◌∷◌, ◌++◌, map, Memᴰ}
+use mathlib.Core.List.{List, [], ◌∷◌, Memᴰ}
 use lib.ListN.{length, get_or, take, drop, set, drop_of_length-le}
-use lib.Seq.{take-suc, take-suc-set, get_or-take, drop-cons, length-take-le}
+use lib.Seq.{get_or-take, drop-cons, length-take-le}
 use Rattle.mem.specs.Words.{words}
-use Rattle.heap.specs.Graph.{Graph, Node, cell, var, node, follow, args, sight, sweep}
+use Rattle.heap.specs.Graph.{Graph, Node, cell, var, fwd, node, follow, args, sight, sweep}
 use Rattle.heap.proofs.Laws.Reach.{mem-at}
 use Rattle.store.specs.Regions.{graph_of, list_of, places_of, Memory, Did, set_node, set_place}
 use Rattle.store.specs.Rows.{seen, symbol_of}
 use Rattle.store.specs.declared.Seen.{Seen}
-use Rattle.store.specs.declared.Seen.TheVariants.{Var, Con, Call, Fwd}
+use Rattle.store.specs.declared.Seen.TheVariants.{Con, Call}
+use Rattle.book.specs.Syntax.{con, fun}
 use Rattle.store.specs.declared.Head.TheVariants.{Makes, Calls}
-use Rattle.store.specs.declared.NodeNo.{NodeNo}
 use Rattle.book.specs.declared.ConNo.{ConNo}
 use Rattle.book.specs.declared.FunNo.{FunNo}
-use Rattle.store.proofs.Laws.{count_of, count-seen, arg-word, seen-con, seen-call, seen-var, seen-fwd}
+use Rattle.store.proofs.Laws.{arg-word, seen-con, seen-call}
 use Rattle.copier.specs.Listed.{seen_in, Below, Listed, Kept, Ends, Saw, cleared}
 use Rattle.copier.specs.Poured.{placed, Spots, new_args, renumbered, Placed}
 use Rattle.copier.proofs.Listing.{kept_refl, kept_then, length_seen, Owes, owes-sight}
 
--- a word more of an array
-map_snoc : (f : ℕ → ℕ) (l : List ℕ) (x : ℕ) → map f (l ++ x ∷ []) ≡ map f l ++ f x ∷ []
-map_snoc f [] x = refl
-map_snoc f (y ∷ l) x = ap (λ (m : List ℕ). f y ∷ m) (map_snoc f l x)
-
-pub fill-map : (f : ℕ → ℕ) (l m : List ℕ) (j v : ℕ) → take j l ≡ map f (take j m) → j < length l → j < length m → v ≡ f (get_or m j 0) → take (j + 1) (set l j v) ≡ map f (take (j + 1) m)
-fill-map f l m j v e p q w = rw add-one (take-suc-set l j v p ∙ rw (e, w) (sym (map_snoc f (take j m) (get_or m j 0)) ∙ sym (ap (map f) (take-suc m j 0 q))))
-
+-- a handle of an array
 pub front-mem : (m : List ℕ) (n j : ℕ) → j < n → n ≤ length m → Memᴰ (get_or m j 0) (take n m)
 front-mem m n j p q = let e = length-take-le n m q in subst (λ (x : ℕ). Memᴰ x (take n m)) (get_or-take n m j 0 p) (mem-at (take n m) j (omega arith))
 
--- how many arguments a node has, by what is seen of it
+-- no node has more than eight arguments
 pub args-short : (L n : ℕ) (s : List ℕ) → n < L → 16 * L ≤ length (words s) → length (args (node (graph_of L s) n)) ≤ 8
-args-short L n s lt room = go (dec_lt 8 (length (args (node (graph_of L s) n))))
+args-short L n s lt room = go (cases_lt 8 (length (args (node (graph_of L s) n))))
   where
-    go : Dec (8 < length (args (node (graph_of L s) n))) → length (args (node (graph_of L s) n)) ≤ 8
-    go (no p) = omega arith
-    go (yes p) = let q = (arg-word L n 8 s lt room p).1 in absurd (omega arith)
-
-pub arity-known : (L n : ℕ) (s : List ℕ) (w : Seen) (r : ℕ) → n < L → 16 * L ≤ length (words s) → w ≡ seen (node (graph_of L s) n) → count_of w ≡ r → (r ≡ length (args (node (graph_of L s) n))) × (r ≤ 8)
-arity-known L n s w r lt room e f =
-    let a : r ≡ length (args (node (graph_of L s) n)) = sym f ∙ ap count_of e ∙ count-seen (node (graph_of L s) n) in
-    let b = args-short L n s lt room in
-    (a, omega arith)
+    go : (8 < length (args (node (graph_of L s) n))) ⊎ (length (args (node (graph_of L s) n)) ≤ 8) → length (args (node (graph_of L s) n)) ≤ 8
+    go (inl p) = let q = (arg-word L n 8 s lt room p).1 in absurd (omega arith)
+    go (inr p) = p
 
 -- the place word of the node that a handle ends at
 pub spot-word : (L made : ℕ) (s : List ℕ) (h n p : ℕ) → Spots L made s (h ∷ []) → n ≡ follow (graph_of L s) h → p ≡ get_or (places_of L s) n 0 → (n < L) × (0 < p) × (made + p ≤ L)
@@ -67,15 +55,9 @@ spot-placed L made s h n p e w = rw (w, e)
 pub did-as : {L : ℕ} {s s' : List ℕ} (n : ℕ) (x y : Node) → x ≡ y → Did L s s' (set_node n x) → Did L s s' (set_node n y)
 did-as {L} {s} {s'} n x y e d = subst (λ (z : Node). Did L s s' (set_node n z)) e d
 
--- the first n handles of an array, one by one
-pub owes-next : {L : ℕ} {s₀ s s' : List ℕ} {due : List ℕ} (k j r n : ℕ) (hs : List ℕ) → Owes L s₀ s due k (λ l. sight (graph_of L s₀) l (drop j (take n hs))) → j < n → n ≤ length hs → Saw L k (get_or hs j 0 ∷ []) s s' r
-    → Owes L s₀ s' due r (λ l. sight (graph_of L s₀) l (drop (j + 1) (take n hs)))
-owes-next {L} {s₀} {s} {s'} k j r n hs o p q w =
-    let e = length-take-le n hs q in
-    owes-sight k j r (take n hs) o (omega arith) (subst (λ (x : ℕ). Saw L k (x ∷ []) s s' r) (sym (get_or-take n hs j 0 p)) w)
-
-pub owes-follow : {L : ℕ} {s₀ s : List ℕ} {due : List ℕ} {f : List ℕ → List ℕ} (k j n : ℕ) (hs : List ℕ) → Owes L s₀ s due k f → j < n → n ≤ length hs → Ends L (graph_of L s₀) (take n hs) → follow (graph_of L s) (get_or hs j 0) < L
-owes-follow {L} {s₀} {s} k j n hs o p q e = rw o.graph (e (get_or hs j 0) (front-mem hs n j p q))
+-- handle j of some
+pub owes-follow : {L : ℕ} {s₀ s : List ℕ} {due hs : List ℕ} {f : List ℕ → List ℕ} (k j : ℕ) → Owes L s₀ s due k f → j < length hs → Ends L (graph_of L s₀) hs → follow (graph_of L s) (get_or hs j 0) < L
+owes-follow {L} {s₀} {s} {hs = hs} k j o p e = rw o.graph (e (get_or hs j 0) (mem-at hs j p))
 
 -- place words set back, a node after the other
 pub record Clears (L : ℕ) (s₀ s : List ℕ) (l : List ℕ) (i : ℕ) : Type 0 where
@@ -83,9 +65,6 @@ pub record Clears (L : ℕ) (s₀ s : List ℕ) (l : List ℕ) (i : ℕ) : Type 
   pub list : list_of L s ≡ list_of L s₀
   pub graph : graph_of L s ≡ graph_of L s₀
   pub kept : Kept L s₀ s
-
-pub clears-none : (L : ℕ) (s : List ℕ) (l : List ℕ) → Clears L s s l 0
-clears-none L s l = record { is = refl; list = refl; graph = refl; kept = kept_refl L s }
 
 module _ (L count : ℕ) {s₀ s : List ℕ} (i : ℕ) (o : Clears L s₀ s (seen_in L count s₀) i) (p : i < count) (q : count ≤ length (list_of L s₀)) (n : ℕ) (e : n ≡ get_or (list_of L s) i 0) where
   clears-at : n ≡ get_or (seen_in L count s₀) i 0
@@ -152,10 +131,12 @@ module _ (L made n m : ℕ) (s : List ℕ) (w : Seen) (e : w ≡ seen (node (gra
   unfolding new_args renumbered symbol_of
   emit-call c k f = sym (ap (renumbered (placed L made s)) (seen-call (node (graph_of L s) n) c k (sym f ∙ e)).0) ∙ at-list
 
-  pub emit-var : w ≡ Var → var ≡ renumbered (placed L made s) (node (graph_of L s) m)
-  unfolding renumbered
-  emit-var f = sym (ap (renumbered (placed L made s)) (seen-var (node (graph_of L s) n) (sym f ∙ e))) ∙ at-list
-
-  pub emit-fwd : (t : NodeNo) → w ≡ Fwd t → var ≡ renumbered (placed L made s) (node (graph_of L s) m)
-  unfolding renumbered
-  emit-fwd t f = sym (ap (renumbered (placed L made s)) (seen-fwd (node (graph_of L s) n) t (sym f ∙ e))) ∙ at-list
+  pub emit-other : ((c : ConNo) (k : ℕ) → w ≡ Con c k → ⊥) → ((f : FunNo) (k : ℕ) → w ≡ Call f k → ⊥) → var ≡ renumbered (placed L made s) (node (graph_of L s) m)
+  unfolding renumbered seen
+  emit-other a b = go (node (graph_of L s) n) e ∙ at-list
+    where
+      go : (x : Node) → w ≡ seen x → var ≡ renumbered (placed L made s) x
+      go var e = refl
+      go (cell (con c) hs) e = absurd (a (record { 0 = c }) (length hs) e)
+      go (cell (fun f) hs) e = absurd (b (record { 0 = f }) (length hs) e)
+      go (fwd t) e = refl

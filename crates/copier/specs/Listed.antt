@@ -1,5 +1,5 @@
 -- The list of nodes seen as it lies in the memory: the list's words are the nodes in order of first sight, and each node's place word is its place + 1.
--- Here, in order: handles in an array; the nodes seen; what stays; handles seen; the nodes under them; the place words set back.
+-- Here, in order: the nodes seen; what stays; handles seen; the nodes under them; the place words set back.
 -- Not here: what is written of the nodes seen (Poured).
 -- Assumes nothing.
 use Rattle.std.specs.Prelude.{ℕ, suc, ◌≤◌, ◌<◌, ◌≡◌, length, get_or, take, set, replicate}
@@ -9,11 +9,6 @@ use Rattle.mem.specs.Words.{words}
 use Rattle.heap.specs.Graph.{Graph, node, follow, args, index_of, sight}
 use Rattle.heap.specs.Place.{Distinct}
 use Rattle.store.specs.Regions.{graph_of, marks_of, links_of, list_of, places_of, frames_of, rest_of}
-use Rattle.copier.specs.declared.Roots.{Roots}
-
--- the handles: the first n of the array
-abbrev pub roots_in : Roots → List ℕ
-roots_in r = take r.n r.at
 
 -- the first k words of the list
 abbrev pub seen_in : ℕ → ℕ → List ℕ → List ℕ

@@ -1,20 +1,21 @@
 -- A copy poured at the next free numbers: what is written for each node seen, and what pour_copy gives.
--- Here, in order: handles by their new numbers; a node's copy; what the nodes seen lead to; what code may rely on; the copy poured.
+-- Here, in order: handles by their new numbers; a node's copy; what the nodes seen lead to; what code may rely on; what is given, if anything; the copy poured.
 -- Not here: the list of nodes seen (Listed), the copy itself (heap, Graph), pour (standing, Shared).
 -- Assumes nothing.
-use Rattle.std.specs.Prelude.{ℕ, ◌+◌, ◌-◌, ◌≤◌, ◌<◌, ◌≡◌, Bool, true, false, length, get_or, drop}
+use Rattle.std.specs.Prelude.{ℕ, ◌+◌, ◌-◌, ◌≤◌, ◌<◌, ◌≡◌, Option, Some, None, IfSome, IfNone, length, get_or, drop}
 use mathlib.Core.List.{List, [], map, Memᴰ}
-use Rattle.std.proofs.Math.Option.{Option, none, some}
+use Rattle.std.proofs.Math.Option as pure
 use Rattle.heap.specs.Graph.{Graph, Node, cell, var, fwd, node, follow, args, renamed, Comp, copy}
 use Rattle.heap.specs.Build.{up_from}
 use Rattle.heap.specs.Place.{Leads}
-use Rattle.heap.specs.Store.{Store, laid}
+use Rattle.heap.specs.Store.{laid}
 use Rattle.engine.specs.Machine.{Held}
 use Rattle.standing.specs.Part.{Handle, Part}
 use Rattle.standing.specs.Shared.{pour}
 use Rattle.store.specs.Regions.{graph_of, list_of, places_of, store_of}
-use Rattle.copier.specs.Listed.{roots_in, Clean, Kept}
-use Rattle.copier.specs.declared.Roots.{Roots}
+use Rattle.store.specs.Roots.{roots_of}
+use Rattle.store.specs.declared.Roots.{Roots}
+use Rattle.copier.specs.Listed.{Clean, Kept}
 use Rattle.copier.specs.declared.Poured.{Poured}
 
 -- a handle's new number, by the place word of the node it ends at
@@ -84,17 +85,17 @@ comp_of g hs = record { graph = g; value = get_or hs 0 0; askers = drop 1 hs }
 unfoldable pub held_of : List ℕ → Held
 held_of hs = record { value = get_or hs 0 0; askers = drop 1 hs; stack = [] }
 
--- the store and the new handles, if they fit
-unfoldable pub given : Bool → Store → Held → Option (Store × Held)
-given true μ c = some (μ, c)
-given false μ c = none
+-- what f gives for a value, if there is one
+unfoldable pub given : {A B : Type 0} → (A → B) → Option A → pure.Option B
+given f None = pure.none
+given f (Some x) = pure.some (f x)
 
 -- the copy of the computation with the handles hs is poured, or does not fit and the graph is as before; the nodes made before are as they were
-pub record PouredTo (L made : ℕ) (hs : Roots) (s s' : List ℕ) (r : Poured) : Type 0 where
-  pub is : pour (copy (comp_of (graph_of L s) (roots_in hs))) (store_of L made s) ≡ given r.fits (store_of L r.made s') (held_of (roots_in r.roots))
-  pub stays : r.fits ≡ false → graph_of L s' ≡ graph_of L s
+pub record PouredTo (L made : ℕ) (hs : Roots) (s s' : List ℕ) (r : Option Poured) : Type 0 where
+  pub is : pour (copy (comp_of (graph_of L s) (roots_of hs))) (store_of L made s) ≡ given (λ p. (store_of L p.made s', held_of (roots_of p.roots))) r
+  pub stays : IfNone r (graph_of L s' ≡ graph_of L s)
   pub before : (x : ℕ) → x < made → node (graph_of L s') x ≡ node (graph_of L s) x
-  pub more : (made ≤ r.made) × (r.made ≤ L)
-  pub same : r.roots.n ≡ hs.n
+  pub more : IfSome r (λ p. (made ≤ p.made) × (p.made ≤ L))
+  pub same : IfSome r (λ p. p.roots.n ≡ hs.n)
   pub clean : Clean L s'
   pub kept : Kept L s s'

@@ -4,56 +4,36 @@ use Prim.Native.Nat.{ℕ, zero, suc, ◌-◌, ◌≤◌, ◌<◌}
 use native.Mathlib.Omega.{arith}
 use native.Mathlib.Decide.{dec_lt}
 use mathlib.Core.Path.{◌≡◌, refl, ap, sym, ◌∙◌, subst}
-use mathlib.Core.Logic.{◌≢◌, ⊎_elim}
-use mathlib.Core.List.{List, [], ◌∷◌}
+use mathlib.Core.Logic.{◌≢◌}
+use mathlib.Core.List.{List}
 use lib.ListN.{length, set, get_or-eq_default}
-use types.Run.{OneOf}
-use denote.Enum.Declared.{tag_of}
 use borrow.Author.Tests.{eq-eqb, ne_eqb}
 use Rattle.book.specs.Syntax.{con, fun}
 use Rattle.heap.specs.Graph.{Node, cell, var, fwd, Graph, node, follow}
 use Rattle.store.specs.Rows.{seen}
 use Rattle.store.specs.Regions.{memory, graph_of, with_graph, set_node, Did}
-use Rattle.store.proofs.Laws.{length-graph, deref-go, deref-past, follow-is}
+use Rattle.store.proofs.Laws.{length-graph, deref-go, deref-past, follow-is, seen-call}
+use Rattle.store.specs.declared.whole.Store.{Store as Whole}
+use Rattle.store.specs.Whole.{graph, Became}
 use Rattle.store.proofs.Writes.{did_then}
-use Rattle.store.specs.contracts.Seen as the
-use Rattle.book.specs.declared.ConNo.{ConNo}
+use Rattle.store.proofs.Became.{loan_same}
 use Rattle.book.specs.declared.FunNo.{FunNo}
 use Rattle.store.specs.declared.NodeNo.{NodeNo}
 use Rattle.store.specs.declared.Seen.{Seen}
-use Rattle.store.specs.declared.Seen.TheVariants.{Var, Con, Call, Fwd}
-use Rattle.forwards.specs.Shortcut.{led, led_on, shortened, Shortened}
+use Rattle.store.specs.declared.Seen.TheVariants.{Call, Fwd}
+use Rattle.forwards.specs.Shortcut.{led, led_on, shortened, shorten_top, Shortened}
 
 -- where the second node is led, by what is seen at the end
-unfoldable led_by : Seen → ℕ → ℕ → ℕ
-led_by (Call f k) a e = a
-led_by (Con c k) a e = e
-led_by Var a e = e
-led_by (Fwd t) a e = e
+pub led-call : (x : Node) (a e : ℕ) (f : FunNo) (k : ℕ) → Call f k ≡ seen x → a ≡ led x a e
+unfolding led
+led-call x a e f k p = sym (ap (λ (y : Node). led y a e) (seen-call x f k p).0)
 
-led-by : (x : Node) (a e : ℕ) → led_by (seen x) a e ≡ led x a e
-unfolding led_by seen led
-led-by (cell (fun f) hs) a e = refl
-led-by (cell (con c) hs) a e = refl
-led-by var a e = refl
-led-by (fwd k) a e = refl
-
-module _ (x : Node) (a e : ℕ) where
-  pub led-call : (f : FunNo) (k : ℕ) → Call f k ≡ seen x → a ≡ led x a e
-  unfolding led_by
-  led-call f k p = ap (λ (s : Seen). led_by s a e) p ∙ led-by x a e
-
-  pub led-con : (c : ConNo) (k : ℕ) → Con c k ≡ seen x → e ≡ led x a e
-  unfolding led_by
-  led-con c k p = ap (λ (s : Seen). led_by s a e) p ∙ led-by x a e
-
-  pub led-var : Var ≡ seen x → e ≡ led x a e
-  unfolding led_by
-  led-var p = ap (λ (s : Seen). led_by s a e) p ∙ led-by x a e
-
-  pub led-fwd : (t : NodeNo) → Fwd t ≡ seen x → e ≡ led x a e
-  unfolding led_by
-  led-fwd t p = ap (λ (s : Seen). led_by s a e) p ∙ led-by x a e
+pub led-other : (x : Node) (a e : ℕ) (s : Seen) → s ≡ seen x → ((f : FunNo) (k : ℕ) → s ≡ Call f k → ⊥) → e ≡ led x a e
+unfolding seen led
+led-other (cell (fun f) hs) a e s p o = absurd (o _ _ p)
+led-other (cell (con c) hs) a e s p o = refl
+led-other var a e s p o = refl
+led-other (fwd k) a e s p o = refl
 
 -- past the nodes nothing is a call
 pub led-past : (L : ℕ) (s : List ℕ) (a e : ℕ) → L ≤ e → e ≡ led (node (graph_of L s) e) a e
@@ -63,8 +43,8 @@ led-past L s a e h =
     rw (get_or-eq_default (graph_of L s) var p)
 
 -- nothing is written
-pub none-led : (L top : ℕ) (s : List ℕ) → shortened top (graph_of L s) ≡ graph_of L s → Shortened L top s s
-none-led L top s e = record { is = sym (ap (λ (g : Graph). with_graph g (memory L s)) e); long = refl }
+pub none-led : (top : ℕ) (st : Whole) → shortened top (graph st) ≡ graph st → Became st st (shorten_top top)
+none-led top st e = record { loan = loan_same; did = record { is = sym (ap (λ (g : Graph). with_graph g (memory st.limit st.bytes.now)) e); long = refl } }
 
 pub empty-stack : (g : Graph) (top : ℕ) → top ≡ 0 → shortened top g ≡ g
 unfolding shortened
@@ -75,21 +55,17 @@ unfolding shortened led_on
 past_all g zero h = refl
 past_all g (suc a) h = let p : length g ≤ a = omega arith in rw (get_or-eq_default g var p)
 
-by-node : (g : Graph) (a e : ℕ) (x : Node) → OneOf (0 ∷ 1 ∷ 2 ∷ []) (tag_of the.the_type (seen x)) → led_on g a e x ≡ g
+by-node : (g : Graph) (a e : ℕ) (x : Node) (k : Seen) → k ≡ seen x → ((t : NodeNo) → k ≡ Fwd t → ⊥) → led_on g a e x ≡ g
 unfolding seen led_on
-by-node g a e var o = refl
-by-node g a e (cell (con c) hs) o = refl
-by-node g a e (cell (fun f) hs) o = refl
-by-node g a e (fwd t) o = absurd (⊎_elim (λ e. omega arith) (λ o'. ⊎_elim (λ e. omega arith) (λ e. omega arith) o') o)
+by-node g a e var k p o = refl
+by-node g a e (cell (con c) hs) k p o = refl
+by-node g a e (cell (fun f) hs) k p o = refl
+by-node g a e (fwd t) k p o = absurd (o _ p)
 
-pub no-forward : (g : Graph) (top : ℕ) (k : Seen) → k ≡ seen (node g (top - 1)) → OneOf (0 ∷ 1 ∷ 2 ∷ []) (tag_of the.the_type k) → shortened top g ≡ g
+pub no-forward : (g : Graph) (top : ℕ) (k : Seen) → k ≡ seen (node g (top - 1)) → ((t : NodeNo) → k ≡ Fwd t → ⊥) → shortened top g ≡ g
 unfolding shortened
 no-forward g zero k e o = refl
-no-forward g (suc a) k e o = let d : suc a - 1 ≡ a = omega arith in by-node g a (follow g a) (node g a) (subst (λ (k' : Seen). OneOf (0 ∷ 1 ∷ 2 ∷ []) (tag_of the.the_type k')) (rw d at e) o)
-
--- the top's own forwards
-pub from-top : (L top : ℕ) (s s' : List ℕ) → top ≢ 0 → Shortened L (suc (top - 1)) s s' → Shortened L top s s'
-from-top L top s s' h d = let e : suc (top - 1) ≡ top = omega arith in subst (λ (t : ℕ). Shortened L t s s') e d
+no-forward g (suc a) k e o = let d : suc a - 1 ≡ a = omega arith in by-node g a (follow g a) (node g a) k (rw d at e) o
 
 -- one forward, and more of them
 module _ (g : Graph) (a x : ℕ) (p : node g a ≡ fwd x) where

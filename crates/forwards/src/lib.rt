@@ -12,58 +12,51 @@
 
 ghost use Rattle.std.specs.Prelude.{◌≡◌, suc, ◌<◌};
 ghost use Rattle.heap.specs.Graph as g;
-ghost use Rattle.store.specs.Regions.{Room, graph_of};
-ghost use Rattle.forwards.specs.Shortcut.{led, Shortened};
+ghost use Rattle.store.specs.Whole.{graph, Became};
+ghost use Rattle.forwards.specs.Shortcut.{led, shorten_top};
 
-use store::{NodeNo, Seen};
+use store::{NodeNo, Seen, Store};
 
 // Where the second node of a chain from a to e is led: to a where e is a call, else to e.
-fn lead(s: &[u8], limit: usize, a: NodeNo, e: NodeNo) -> NodeNo
-    requires { Room limit s.now }
-    ensures { result.0 ≡ led (g.node (graph_of limit s.now) e.0) a.0 e.0 }
+fn lead(store: &Store, a: NodeNo, e: NodeNo) -> NodeNo
+    ensures { result.0 ≡ led (g.node (graph store.now) e.0) a.0 e.0 }
 {
-    if e.0 as usize >= limit {
+    if e.0 as usize >= store.limit {
         return e;
     }
-    let k = store::look(s, limit, e);
-    match k {
+    match store.look(e) {
         Seen::Call(_, _) => a,
-        Seen::Con(_, _) => e,
-        Seen::Var => e,
-        Seen::Fwd(_) => e,
+        _ => e,
     }
 }
 
 // Node a, a forward to x, and x are led on.
-fn lead_on(s: &mut [u8], limit: usize, a: NodeNo, x: NodeNo)
-    requires room { Room limit s.old }
-    requires a_lt_limit { (a.0 < limit) × (g.node (graph_of limit s.old) a.0 ≡ g.fwd x.0) }
-    ensures { Shortened limit (suc a.0) s.old s.new }
+fn lead_on(store: &mut Store, a: NodeNo, x: NodeNo)
+    requires a_lt_limit { (a.0 < store.old.limit) × (g.node (graph store.old) a.0 ≡ g.fwd x.0) }
+    ensures { Became store.old store.new (shorten_top (suc a.0)) }
 {
-    let e = store::follow(s, limit, a);
-    if x.0 == e.0 {
+    let e = store.follow(a);
+    if x == e {
         return;
     }
-    let y = lead(s, limit, a, e);
-    store::put_fwd(s, limit, a, e);
-    store::put_fwd(s, limit, x, y);
+    let y = lead(store, a, e);
+    store.put_fwd(a, e);
+    store.put_fwd(x, y);
 }
 
 // The forwards from a stack's top are led on; the top is a node's number + 1, and 0 where there is none.
-pub fn shorten(s: &mut [u8], limit: usize, top: u16)
-    requires { Room limit s.old }
-    ensures { Shortened limit top s.old s.new }
+pub fn shorten(store: &mut Store, top: u16)
+    ensures { Became store.old store.new (shorten_top top) }
 {
     if top == 0 {
         return;
     }
     let a = NodeNo(top - 1);
-    if a.0 as usize >= limit {
+    if a.0 as usize >= store.limit {
         return;
     }
-    let k = store::look(s, limit, a);
-    let Seen::Fwd(x) = k else {
+    let Seen::Fwd(x) = store.look(a) else {
         return;
     };
-    lead_on(s, limit, a, x);
+    lead_on(store, a, x);
 }

@@ -1,65 +1,62 @@
-// Bytes that are filled, copied and looked at.
-// Here, in order: the pattern; a memory filled; bytes as they were filled; bytes that are the same; a copy.
+// A memory that is lent between guards, filled before and looked at afterwards.
+// Here, in order: the pattern; the memory: made, lent and filled, its middle, bytes as they were filled.
 // Not here: which bytes are to be as they were (leaves).
-ghost use Rattle.std.specs.Prelude.{◌≡◌, true, ◌+◌, ◌≤◌, length};
-ghost use Rattle.guards.specs.Pattern.{pattern_at, Filled, Same};
+ghost use Rattle.std.specs.Prelude.{◌≡◌, true, ◌+◌, ◌≤◌};
+ghost use Rattle.guards.specs.Pattern.{pattern_at, Filled};
 
 // The byte that stands at a place before a run: no two neighbours alike, and no memory of zeros.
 #[tactic(auto, unfolding(crate::specs::Pattern::pattern_at))]
-pub fn pattern(i: usize) -> u8
+fn pattern(i: usize) -> u8
     ensures { result ≡ pattern_at i }
 {
     (i % 251) as u8 + 1
 }
 
-// Fills the first n bytes.
-pub fn fill(mem: &mut [u8], n: usize)
-    requires { n ≤ length mem.old }
-{
-    let mut i = 0;
-    while i < n {
-        mem[i] = pattern(i);
-        i += 1;
-    }
+// A memory of N bytes; of these so many are lent, with 64 bytes on both sides.
+#[derive(Drop)]
+pub struct Guarded<const N: usize> {
+    pub bytes: [u8; N],
+    pub lent: usize,
+    ghost room: { lent + 128 ≤ N },
 }
 
-// Whether the bytes from one place to another are as they were filled.
-pub fn intact(mem: &[u8], from: usize, to: usize) -> bool
-    requires { to ≤ length mem.now }
-    ensures { result ≡ true → Filled mem.now from to }
-{
-    let mut i = from;
-    while i < to {
-        if mem[i] != pattern(i) {
-            return false;
+impl<const N: usize> Guarded<N> {
+    pub fn new() -> Self
+        requires { 128 ≤ N }
+    {
+        Guarded {
+            bytes: [0; N],
+            lent: 0,
         }
-        i += 1;
     }
-    true
-}
 
-// Whether the first n bytes of one slice are those of another from a place on.
-pub fn same(a: &[u8], b: &[u8], from: usize, n: usize) -> bool
-    requires { (n ≤ length a.now) × (from + n ≤ length b.now) }
-    ensures { result ≡ true → Same a.now b.now from n }
-{
-    let mut i = 0;
-    while i < n {
-        if a[i] != b[from + i] {
-            return false;
+    // Lends n bytes, or as many as there is room for, and fills these and the guards.
+    pub fn lend(&mut self, n: usize) {
+        self.lent = n.min(N - 128);
+        let bytes = &mut self.bytes[..];
+        for i in 0..self.lent + 128 {
+            bytes[i] = pattern(i);
         }
-        i += 1;
     }
-    true
-}
 
-// Copies the first n bytes.
-pub fn copy(src: &[u8], dst: &mut [u8], n: usize)
-    requires { (n ≤ length src.now) × (n ≤ length dst.old) }
-{
-    let mut i = 0;
-    while i < n {
-        dst[i] = src[i];
-        i += 1;
+    // What is lent.
+    pub fn middle(&mut self) -> &mut [u8] {
+        let end = 64 + self.lent;
+        let bytes = &mut self.bytes;
+        let all = &mut bytes[..];
+        &mut all[64..end]
+    }
+
+    // Whether the bytes from one place to another are as they were filled.
+    pub fn intact(&self, from: usize, to: usize) -> bool
+        requires { to ≤ N }
+        ensures { result ≡ true → Filled self.now.bytes from to }
+    {
+        for i in from..to {
+            if self.bytes[i] != pattern(i) {
+                return false;
+            }
+        }
+        true
     }
 }

@@ -1,10 +1,10 @@
 // What the programs read.
-// Here: a buffer filled from a reader. Not here: what the bytes mean (crate cases, the programs).
+// Here, in order: a buffer filled from a reader; bytes that are passed over. Not here: what the bytes mean (crate cases, the programs).
 #![tactic(auto)]
 
-ghost use Rattle.std.specs.Prelude.{ℕ, ◌≤◌, ◌<◌, length, take, IfOk, IfErr};
+ghost use Rattle.std.specs.Prelude.{ℕ, ◌≤◌, ◌<◌, ◌≡◌, true, false, length, take, IfOk, IfErr};
 ghost use Rattle.std.specs.Io.KnownBytes.{Consumes, IsAtEnd};
-ghost use Rattle.input.specs.Reading.{Lost};
+ghost use Rattle.input.specs.Reading.{Lost, Gone};
 
 use std::io;
 use std::io::Read;
@@ -27,4 +27,23 @@ pub fn read_full<R: Read>(input: &mut R, buf: &mut [u8]) -> io::Result<usize>
         done += n;
     }
     Ok(done)
+}
+
+// Passes over n bytes; whether there are as many. An error is the reader's.
+pub fn skip<R: Read>(input: &mut R, n: usize) -> io::Result<bool>
+    ensures whole { IfOk result (λ whole. whole ≡ true → Gone n (R.remaining input.old) (R.remaining input.new)) }
+    ensures end { IfOk result (λ whole. whole ≡ false → IsAtEnd (R.remaining input.new)) }
+    ensures lost { Lost (R.remaining input.old) (R.remaining input.new) }
+{
+    let mut chunk = [0u8; 4096];
+    let mut left = n;
+    while left > 0 {
+        let m = left.min(chunk.len());
+        let got = read_full(input, &mut chunk[..m])?;
+        if got == 0 {
+            return Ok(false);
+        }
+        left -= got;
+    }
+    Ok(true)
 }

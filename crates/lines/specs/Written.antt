@@ -1,15 +1,11 @@
 -- What is written of an outcome and of bytes.
 -- Here, in order: bytes in hex; a line's nine numbers.
 -- Assumes nothing.
-use Rattle.std.specs.Prelude.{ℕ, ◌/◌, ◌%◌, List, [], ◌∷◌, ◌++◌, false, ◌==◌, if◌then◌else◌}
+use Rattle.std.specs.Prelude.{ℕ, ◌/◌, ◌%◌, List, [], ◌∷◌, ◌++◌, false}
 use Rattle.std.specs.Fmt.{decimal, digit_glyph}
 use Rattle.engine.specs.Run.{number_of, place_of}
 use Rattle.run.specs.declared.Outcome.{Outcome}
 use Rattle.run.specs.Given.{answer_is}
-
--- the digit of a byte that stands at an even place, the high one, or at an odd place
-abbrev pub half_of : ℕ → ℕ → ℕ
-half_of x j = digit_glyph false (if j % 2 == 0 then x / 16 else x % 16)
 
 -- bytes in lower-case hex, two digits each
 unfoldable pub hex : List ℕ → List ℕ

@@ -8,12 +8,13 @@ use mathlib.Core.List.{List, ◌∷◌}
 use lib.ListN.{length, get_or, take, drop, length-take, get_or-eq_default}
 use lib.Seq.{get_or-drop, drop-cons, drop-drop, take-take, take_all}
 use lib.Dec.{leb}
+use Rattle.std.proofs.Common.{min}
 use borrow.Author.Tests.{ne_eqb, leb-true, leb-false}
 use native.Mathlib.Omega.{arith}
 use native.Mathlib.Nat.{add-zero, add_assoc}
 use native.Mathlib.Numerals.{add-one}
 use Rattle.book.specs.Syntax.{con, fun}
-use Rattle.engine.specs.Code.{Instr, branch, store_var, make_var, make_term, wrong, decode, bodies, symbol, from_four, width}
+use Rattle.engine.specs.Code.{Instr, load, branch, store_var, make_var, make_term, wrong, decode, bodies, symbol, from_four, width}
 use Rattle.store.specs.Rows.{symbol_of}
 use Rattle.store.specs.declared.Head.{Head}
 use Rattle.store.specs.declared.Head.TheVariants.{Makes, Calls}
@@ -68,13 +69,13 @@ module _ (code : List ℕ) (pc : ℕ) (h : pc < length code) where
   steps : drop 1 (drop (pc + 1) code) ≡ drop (pc + 2) code
   steps = drop-drop 1 (pc + 1) code ∙ ap (λ (i : ℕ). drop i code) (add_assoc pc 1 1)
 
-  pub op-load : (b : ℕ) → b ≡ get_or code (pc + 1) 0 → get_or code pc 0 ≡ 0x30 → b < 8 → op_of code pc (Load b) ≡ decode (drop pc code)
+  pub op-load : (b n : ℕ) → b ≡ get_or code (pc + 1) 0 → n ≡ min b 8 → get_or code pc 0 ≡ 0x30 → op_of code pc (Load n) ≡ decode (drop pc code)
   unfolding op_of decode
-  op-load b e k lt = sym (kind 0x30 k ∙ rw (body b e, steps, take-take b 8 (drop (pc + 2) code) (omega arith)))
-
-  pub op-load-all : (b : ℕ) → b ≡ get_or code (pc + 1) 0 → get_or code pc 0 ≡ 0x30 → 8 ≤ b → op_of code pc (Load 8) ≡ decode (drop pc code)
-  unfolding op_of decode
-  op-load-all b e k le = sym (kind 0x30 k ∙ rw (body b e, steps, take_all b (take 8 (drop (pc + 2) code)) (rw length-take (omega arith))))
+  op-load b n e en k = sym (kind 0x30 k ∙ rw (body b e, steps) (ap load (go (leb b 8) refl)))
+    where
+      go : (x : Bool) → leb b 8 ≡ x → take b (take 8 (drop (pc + 2) code)) ≡ take n (drop (pc + 2) code)
+      go true e' = let le = leb-true b 8 e' in let s : n ≡ b = omega arith in rw s (take-take b 8 (drop (pc + 2) code) le)
+      go false e' = let lt = leb-false b 8 e' in let s : n ≡ 8 = omega arith in rw s (take_all b (take 8 (drop (pc + 2) code)) (rw length-take (omega arith)))
 
   pub op-branch : (b : ℕ) → b ≡ get_or code (pc + 1) 0 → get_or code pc 0 ≡ 0x31 → op_of code pc (Branch b) ≡ decode (drop pc code)
   unfolding op_of decode

@@ -13,8 +13,9 @@ use Rattle.engine.specs.Machine as m
 use Rattle.heap.specs.Store.{Store}
 use Rattle.machine.specs.Tables.{Has, Home, vars_at, terms_end}
 use Rattle.machine.specs.Contract.{Fine, Kept, Frame, Roomy, Went}
+use Rattle.std.specs.Prelude.{Result}
 use Rattle.machine.specs.declared.Regs.{Regs}
-use Rattle.machine.specs.declared.Ran.{Ran}
+use Rattle.machine.specs.declared.Ended.{Ended}
 
 pub kept_same : {L base k : ℕ} {s : List ℕ} → Kept L base k s s
 kept_same = record { nodes = refl; marks = refl; list = refl; places = refl; frames = refl; before = refl; behind = refl; long = refl }
@@ -88,13 +89,13 @@ module _ {L base k : ℕ} {s s' : List ℕ} (K : Kept L base k s s') where
   }
 
 -- an answer after other changes, and to the same question
-pub went-from : {L base : ℕ} {code : List ℕ} {r r' : Regs} {s s' s'' : List ℕ} {a : Ran} {f g : Program → m.Step Store}
+pub went-from : {L base : ℕ} {code : List ℕ} {r r' : Regs} {s s' s'' : List ℕ} {a : Result Regs Ended} {f g : Program → m.Step Store}
     → Frame L base s s' r r' → ((p : Program) → Has p base (rest_of L s) → p.code ≡ code → g p ≡ f p) → Went L base code r' s' s'' a f → Went L base code r s s'' a g
 went-from F e w = record {
   is = λ p h c room. w.is p (has_kept F.kept p h) c (subst Roomy (e p h c) room) ∙ sym (e p h c);
   frame = frame_then F w.frame;
 }
 
-pub went-as : {L base : ℕ} {code : List ℕ} {r : Regs} {s s' : List ℕ} {a : Ran} {f g : Program → m.Step Store}
+pub went-as : {L base : ℕ} {code : List ℕ} {r : Regs} {s s' : List ℕ} {a : Result Regs Ended} {f g : Program → m.Step Store}
     → ((p : Program) → Has p base (rest_of L s) → p.code ≡ code → g p ≡ f p) → Went L base code r s s' a f → Went L base code r s s' a g
 went-as e w = record { is = λ p h c room. w.is p h c (subst Roomy (e p h c) room) ∙ sym (e p h c); frame = w.frame }

@@ -1,6 +1,6 @@
 -- Laws of the stack of links: its top, the settled stack.
 -- Assumes nothing.
-use Prim.Native.Nat.{ℕ, zero, suc, ◌-◌, ◌*◌, ◌≤◌, ◌<◌}
+use Prim.Native.Nat.{ℕ, zero, suc, ◌+◌, ◌-◌, ◌*◌, ◌≤◌, ◌<◌}
 use mathlib.Core.Path.{◌≡◌, refl, ap, sym, ◌∙◌}
 use mathlib.Core.List.{List, [], ◌∷◌}
 use lib.ListN.{length, get_or, get_or-eq_default}
@@ -16,8 +16,8 @@ use Rattle.book.specs.declared.FunNo.{FunNo}
 use Rattle.store.specs.declared.Seen.{Seen}
 use Rattle.machine.specs.View.{chain, stack_of, called_of}
 use Rattle.machine.specs.Drive.{Settled}
-use Rattle.machine.specs.declared.Called.{Called}
-use Rattle.machine.specs.declared.Called.TheVariants.{Nothing, Fun}
+use mathlib.Core.Bool.{true, false}
+use Rattle.std.specs.Prelude.{Option, Some, None, is_some}
 
 -- a chain that has ended does not go on
 chain_more : (n : ℕ) (l : List ℕ) (t : ℕ) → length (chain n l t) < n → chain (suc n) l t ≡ chain n l t
@@ -40,18 +40,27 @@ pub stack-nil : (L : ℕ) (s : List ℕ) (t : ℕ) → t ≡ 0 → stack_of L s 
 unfolding stack_of chain
 stack-nil L s t e = rw e
 
--- what is seen says whether the top settles
-not-fun : (f : FunNo) → Fun f ≡ Nothing → ⊥
-not-fun f e = let z : ◌≡◌ {A = ℕ} 0 1 = cc in omega arith
+-- an option by its test
+is-none : {A : Type 0} (o : Option A) → is_some o ≡ false → o ≡ None
+is-none None e = refl
+is-none (Some x) e = cc
 
-settle-pop : (g : Graph) (h : ℕ) (N : List ℕ) (x : Node) → look g h ≡ x → called_of (seen x) ≡ Nothing → m.settle g (h ∷ N) ≡ m.settle g N
+is-some : {A : Type 0} (o : Option A) → is_some o ≡ true → (x : A) × (o ≡ Some x)
+is-some None e = cc
+is-some (Some x) e = (x, refl)
+
+-- what is seen says whether the top settles
+not-fun : (f : FunNo) → Some f ≡ None → ⊥
+not-fun f e = cc
+
+settle-pop : (g : Graph) (h : ℕ) (N : List ℕ) (x : Node) → look g h ≡ x → called_of (seen x) ≡ None → m.settle g (h ∷ N) ≡ m.settle g N
 unfolding m.settle seen
 settle-pop g h N (cell (con y) hs) e c = rw (e, m.settle)
 settle-pop g h N (cell (fun y) hs) e c = absurd (not-fun (record { 0 = y }) c)
 settle-pop g h N var e c = rw (e, m.settle)
 settle-pop g h N (fwd y) e c = rw (e, m.settle)
 
-settle-stay : (g : Graph) (h : ℕ) (N : List ℕ) (x : Node) (f : FunNo) → look g h ≡ x → called_of (seen x) ≡ Fun f → m.settle g (h ∷ N) ≡ h ∷ N
+settle-stay : (g : Graph) (h : ℕ) (N : List ℕ) (x : Node) (f : FunNo) → look g h ≡ x → called_of (seen x) ≡ Some f → m.settle g (h ∷ N) ≡ h ∷ N
 unfolding m.settle seen
 settle-stay g h N (cell (con y) hs) f e c = absurd (not-fun f (sym c))
 settle-stay g h N (cell (fun y) hs) f e c = rw (e, m.settle)
@@ -66,9 +75,6 @@ nil g = refl
 pub record Settling (L : ℕ) (s : List ℕ) (t₀ t left : ℕ) : Type 0 where
   pub few : left ≤ L
   pub is : length (stack_of L s t₀) ≤ L → (m.settle (graph_of L s) (stack_of L s t) ≡ m.settle (graph_of L s) (stack_of L s t₀)) × (length (stack_of L s t) ≤ left)
-
-pub settling-start : (L : ℕ) (s : List ℕ) (t : ℕ) → Settling L s t t L
-settling-start L s t = record { few = omega arith; is = λ h. (refl, h) }
 
 module _ {L : ℕ} {s : List ℕ} {t₀ t left : ℕ} (S : Settling L s t₀ t left) where
   pub settling-empty : t ≡ 0 → Settled L s t₀ 0
@@ -87,26 +93,26 @@ module _ {L : ℕ} {s : List ℕ} {t₀ t left : ℕ} (S : Settling L s t₀ t l
     unfolding look
     seen-top = ap (λ (i : ℕ). called_of (seen (node (graph_of L s) i))) (sym ea) ∙ ap called_of (sym ek)
 
-    pub settling-call : (c : Called) (f : FunNo) → c ≡ called_of k → c ≡ Fun f → Settled L s t₀ t
-    settling-call c f ec ef = λ h.
+    pub settling-call : (c : Option FunNo) → c ≡ called_of k → is_some c ≡ true → Settled L s t₀ t
+    settling-call c ec e = let f = is-some c e in λ h.
         stack-cons L s t lt
-        ∙ sym (settle-stay (graph_of L s) (t - 1) (chain L (links_of L s) (get_or (links_of L s) (t - 1) 0)) (look (graph_of L s) (t - 1)) f refl (seen-top ∙ sym ec ∙ ef))
+        ∙ sym (settle-stay (graph_of L s) (t - 1) (chain L (links_of L s) (get_or (links_of L s) (t - 1) 0)) (look (graph_of L s) (t - 1)) f.0 refl (seen-top ∙ sym ec ∙ f.1))
         ∙ ap (m.settle (graph_of L s)) (sym (stack-cons L s t lt))
         ∙ (S.is h).0
 
-    popped : (c : Called) → c ≡ called_of k → c ≡ Nothing → m.settle (graph_of L s) (stack_of L s t) ≡ m.settle (graph_of L s) (chain L (links_of L s) (get_or (links_of L s) (t - 1) 0))
-    popped c ec en = ap (m.settle (graph_of L s)) (stack-cons L s t lt) ∙ settle-pop (graph_of L s) (t - 1) (chain L (links_of L s) (get_or (links_of L s) (t - 1) 0)) (look (graph_of L s) (t - 1)) refl (seen-top ∙ sym ec ∙ en)
+    popped : (c : Option FunNo) → c ≡ called_of k → is_some c ≡ false → m.settle (graph_of L s) (stack_of L s t) ≡ m.settle (graph_of L s) (chain L (links_of L s) (get_or (links_of L s) (t - 1) 0))
+    popped c ec e = ap (m.settle (graph_of L s)) (stack-cons L s t lt) ∙ settle-pop (graph_of L s) (t - 1) (chain L (links_of L s) (get_or (links_of L s) (t - 1) 0)) (look (graph_of L s) (t - 1)) refl (seen-top ∙ sym ec ∙ is-none c e)
 
-    pub settling-past : (c : Called) → c ≡ called_of k → c ≡ Nothing → 16 * L ≤ length (words s) → L ≤ t - 1 → Settled L s t₀ 0
+    pub settling-past : (c : Option FunNo) → c ≡ called_of k → is_some c ≡ false → 16 * L ≤ length (words s) → L ≤ t - 1 → Settled L s t₀ 0
     unfolding m.settle
     settling-past c ec en room h =
         let past : length (links_of L s) ≤ t - 1 = rw (length-links L s room) h in
         let none : get_or (links_of L s) (t - 1) 0 ≡ 0 = get_or-eq_default (links_of L s) 0 past in
         λ q. stack-nil L s 0 refl ∙ sym (popped c ec en ∙ ap (λ (i : ℕ). m.settle (graph_of L s) (chain L (links_of L s) i)) none ∙ ap (m.settle (graph_of L s)) (chain-zero L (links_of L s))) ∙ (S.is q).0
 
-    pub settling-next : (c : Called) (t' : ℕ) → c ≡ called_of k → c ≡ Nothing → 0 < left → t' ≡ get_or (links_of L s) (t - 1) 0 → Settling L s t₀ t' (left - 1)
+    pub settling-next : (c : Option FunNo) (t' left' : ℕ) → c ≡ called_of k → is_some c ≡ false → left ≡ left' + 1 → t' ≡ get_or (links_of L s) (t - 1) 0 → Settling L s t₀ t' left'
     unfolding stack_of
-    settling-next c t' ec en some e = record {
+    settling-next c t' left' ec en one e = record {
       few = let f = S.few in omega arith;
       is = λ h.
           let whole = S.is h in

@@ -4,15 +4,15 @@ use Prim.Native.Nat.{ℕ, zero, suc, ◌+◌, ◌-◌, ◌*◌, ◌≤◌, ◌<�
 use mathlib.Core.Path.{◌≡◌, refl, ap, sym, ◌∙◌}
 use mathlib.Core.Option.{Option, none, some}
 use mathlib.Core.List.{List, [], ◌∷◌}
-use lib.ListN.{length, get_or, get_elem?, take, drop, length-drop, get_or-eq_default}
-use lib.Seq.{drop-cons, take_all}
+use lib.ListN.{length, get_or, get_elem?, drop, drop_of_length-le, get_or-eq_default}
+use lib.Seq.{drop-cons}
 use borrow.Author.Tests.{ne_eqb, eq-eqb}
 use native.Mathlib.Omega.{arith}
 use native.Mathlib.Numerals.{add-one}
 use Rattle.heap.specs.Graph.{Graph, var, node, follow, look, args}
-use Rattle.store.specs.Rows.{seen, symbol_of}
+use Rattle.store.specs.Rows.{seen, count_of, symbol_of}
 use Rattle.store.specs.Regions.{graph_of}
-use Rattle.store.proofs.Laws.{length-graph, count_of, count-seen}
+use Rattle.store.proofs.Laws.{length-graph, count-seen}
 use Rattle.engine.specs.Compile.{Program}
 use Rattle.engine.specs.Machine.{at, arity_of, arm_of, homes}
 use Rattle.book.specs.declared.ConNo.{ConNo}
@@ -23,10 +23,9 @@ use Rattle.store.specs.declared.Seen.TheVariants.{Var}
 use Rattle.store.specs.declared.Head.{Head}
 use Rattle.store.specs.declared.Head.TheVariants.{Makes, Calls}
 use Rattle.machine.specs.Tables.{Home}
-use Rattle.machine.specs.View.{cur_of, child_of, StepsEnd, arm_is}
+use Rattle.machine.specs.View.{cur_of, child_of, arm_is}
 use Rattle.machine.specs.Contract.{ByTables}
-use Rattle.machine.specs.declared.Cur.TheVariants.{Empty, Holds}
-use Rattle.machine.specs.declared.Arm.TheVariants.{None, Of}
+use Rattle.std.specs.Prelude.{Some, None}
 
 pub elem-some : (l : List ℕ) (j : ℕ) → j < length l → get_elem? l j ≡ some (get_or l j 0)
 elem-some [] j h = absurd (omega arith)
@@ -53,43 +52,30 @@ module _ (L : ℕ) (s : List ℕ) (n a step j count : ℕ) (k : Seen) (e : a ≡
   counted : length (args (node (graph_of L s) a)) ≡ count
   counted = sym (count-seen (node (graph_of L s) a)) ∙ ap count_of (sym ek) ∙ sym ec
 
-  pub child-none : count ≤ j → cur_of Empty ≡ child_of (graph_of L s) n step
+  pub child-none : count ≤ j → cur_of None ≡ child_of (graph_of L s) n step
   unfolding cur_of child_of look
   child-none h = sym (rw (← e, ← ej) (elem-none (args (node (graph_of L s) a)) j (rw counted h)))
 
   pub child-in : j < count → (a < L) × (j < length (args (node (graph_of L s) a)))
   child-in h = let i : j < length (args (node (graph_of L s) a)) = rw counted h in (rw length-graph at (arg-inside (graph_of L s) a j i), i)
 
-  pub child-some : (r : NodeNo) → j < count → r.0 ≡ get_or (args (node (graph_of L s) a)) j 0 → cur_of (Holds r) ≡ child_of (graph_of L s) n step
+  pub child-some : (r : NodeNo) → j < count → r.0 ≡ get_or (args (node (graph_of L s) a)) j 0 → cur_of (Some r) ≡ child_of (graph_of L s) n step
   unfolding cur_of child_of look
   child-some r h er = sym (rw (← e, ← ej) (elem-some (args (node (graph_of L s) a)) j (rw counted h) ∙ ap some (sym er)))
 
--- along a position
-module _ (g : Graph) (code : List ℕ) (i end h : ℕ) where
-  cut : i < end → i < length code → take (end - i) (drop i code) ≡ get_or code i 0 ∷ take (end - (i + 1)) (drop (i + 1) code)
-  cut lt in' = let d : end - i ≡ suc (end - (i + 1)) = omega arith in rw (d, drop-cons code i 0 in', add-one)
-
-  pub at-step : (k : NodeNo) → i < end → i < length code → cur_of (Holds k) ≡ child_of g h (get_or code i 0) → at g h (take (end - i) (drop i code)) ≡ at g k.0 (take (end - (i + 1)) (drop (i + 1) code))
+-- along a position's steps
+module _ (g : Graph) (q : List ℕ) (i h : ℕ) where
+  pub at-step : (k : NodeNo) → i < length q → cur_of (Some k) ≡ child_of g h (get_or q i 0) → at g h (drop i q) ≡ at g k.0 (drop (i + 1) q)
   unfolding cur_of child_of at
-  at-step k lt in' e = let e' = sym e in rw (cut lt in') (rw (e', at))
+  at-step k lt e = let e' = sym e in rw (drop-cons q i 0 lt, add-one) (rw (e', at))
 
-  pub at-stuck : i < end → i < length code → cur_of Empty ≡ child_of g h (get_or code i 0) → at g h (take (end - i) (drop i code)) ≡ none
+  pub at-stuck : i < length q → cur_of None ≡ child_of g h (get_or q i 0) → at g h (drop i q) ≡ none
   unfolding cur_of child_of at
-  at-stuck lt in' e = let e' = sym e in rw (cut lt in') (rw (e', at))
+  at-stuck lt e = let e' = sym e in rw (drop-cons q i 0 lt) (rw (e', at))
 
-  pub at-end : end ≤ i → at g h (take (end - i) (drop i code)) ≡ some h
+  pub at-end : length q ≤ i → at g h (drop i q) ≡ some h
   unfolding at
-  at-end le = let d : end - i ≡ 0 = omega arith in rw d
-
--- where its steps end
-pub end-there : (code : List ℕ) (from count : ℕ) → from + count ≤ length code → StepsEnd code from count (from + count)
-end-there code from count h = let d : from + count - from ≡ count = omega arith in record { there = h; steps = rw d }
-
-pub end-cut : (code : List ℕ) (from count : ℕ) → length code < from + count → StepsEnd code from count (length code)
-end-cut code from count h = record {
-  there = omega arith;
-  steps = take_all (length code - from) (drop from code) (rw length-drop (omega arith)) ∙ sym (take_all count (drop from code) (rw length-drop (omega arith)));
-}
+  at-end le = rw (drop_of_length-le q le)
 
 -- the tables
 pub arity-con : (base r : ℕ) (rest : List ℕ) (h : Head) (y : ConNo) → h ≡ Makes y → y.0 < 256 → r ≡ get_or rest (base + 768 + y.0) 0 → ByTables base rest (λ p. r ≡ arity_of p (symbol_of h))
@@ -112,7 +98,7 @@ module _ (base t c w : ℕ) (rest : List ℕ) (lt : c < 256) (ew : w ≡ get_or 
       go p none e h = rw (e, arm_of)
       go p (some y) e h = rw (e, arm_of, ne_eqb y.0 t (λ z. ne (ew ∙ h.0 ∙ z)))
 
-  pub arm-some : (j : ℕ) → w ≡ t → t < 256 → j ≡ get_or rest (base + 1280 + c) 0 → ByTables base rest (λ p. arm_is (Of j) ≡ arm_of p t c)
+  pub arm-some : (j : ℕ) → w ≡ t → t < 256 → j ≡ get_or rest (base + 1280 + c) 0 → ByTables base rest (λ p. arm_is (Some j) ≡ arm_of p t c)
   unfolding arm_is arm_of
   arm-some j et small ej = λ p h. sym (go p (get_elem? (homes 0 p.types) c) refl (h.home c lt))
     where

@@ -2,7 +2,7 @@
 -- Here, in order: the machine on the store; registers in their bounds; what stays; an instruction; code that runs to its end.
 -- Not here: the calls that are walked instead (Drive).
 -- Assumes nothing.
-use Rattle.std.specs.Prelude.{ℕ, zero, suc, ◌+◌, ◌≤◌, List, ◌∷◌, ◌≡◌, length, take, drop}
+use Rattle.std.specs.Prelude.{ℕ, zero, suc, ◌+◌, ◌≤◌, List, ◌∷◌, ◌≡◌, length, take, drop, Result}
 use Rattle.mem.specs.Words.{words}
 use Rattle.heap.specs.Store.{Store, take1}
 use Rattle.store.specs.Regions.{graph_of, marks_of, links_of, list_of, places_of, frames_of, rest_of}
@@ -10,9 +10,8 @@ use Rattle.engine.specs.Code.{Instr}
 use Rattle.engine.specs.Compile.{Program}
 use Rattle.engine.specs.Machine as m
 use Rattle.machine.specs.Tables.{vars_at, terms_end, var_bound, term_bound, Has}
-use Rattle.machine.specs.View.{state_of, stop_of, ran_of}
+use Rattle.machine.specs.View.{state_of, stop_of, ran_of, after}
 use Rattle.machine.specs.declared.Regs.{Regs}
-use Rattle.machine.specs.declared.Ran.{Ran}
 use Rattle.machine.specs.declared.Ended.{Ended}
 
 -- the machine over the store
@@ -62,9 +61,9 @@ Roomy (m.on (m.st I N R T F μ)) = length T ≤ term_bound
 Roomy (m.ends x) = Unit
 
 -- an instruction's answer is what f says, wherever that has room
-pub record Went (L base : ℕ) (code : List ℕ) (r : Regs) (s s' : List ℕ) (a : Ran) (f : Program → m.Step Store) : Type 0 where
-  pub is : (p : Program) → Has p base (rest_of L s) → p.code ≡ code → Roomy (f p) → ran_of L base code s' a.regs a.goes a.stop ≡ f p
-  pub frame : Frame L base s s' r a.regs
+pub record Went (L base : ℕ) (code : List ℕ) (r : Regs) (s s' : List ℕ) (a : Result Regs Ended) (f : Program → m.Step Store) : Type 0 where
+  pub is : (p : Program) → Has p base (rest_of L s) → p.code ≡ code → Roomy (f p) → ran_of L base code s' a ≡ f p
+  pub frame : Frame L base s s' r (after a)
 
 -- at most n instructions have room on the pre-term stack
 unfoldable pub Low : ℕ → Program → m.State Store → Type 0

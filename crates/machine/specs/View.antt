@@ -1,9 +1,9 @@
 -- The machine's state in the memory and in the registers that the code carries.
--- Here, in order: a stack of links; the pre-term stack; the current register; the state; instructions; how an instruction and how code ends.
+-- Here, in order: a stack of links; the pre-term stack; the current register; the state; empty registers; instructions; how an instruction and how code ends.
 -- Not here: the tables (Tables), what functions promise (Contract).
 -- Assumes nothing.
-use Rattle.std.specs.Prelude.{ℕ, zero, suc, ◌+◌, ◌-◌, ◌≤◌, List, [], ◌∷◌, reverse, Bool, true, false, ◌≡◌, length, get_or, take, drop}
-use Rattle.std.proofs.Math.Option.{Option, none, some}
+use Rattle.std.specs.Prelude.{ℕ, zero, suc, ◌+◌, ◌-◌, List, [], ◌∷◌, reverse, ◌≡◌, get_or, take, drop, Option, Some, None, Result, Ok, Err}
+use Rattle.std.proofs.Math.Option as pure
 use Rattle.std.proofs.Math.ListN.{get_elem?}
 use Rattle.heap.specs.Graph.{Graph, look, args}
 use Rattle.heap.specs.Store.{Store}
@@ -15,13 +15,10 @@ use Rattle.machine.specs.Tables.{vars_at, terms_at}
 use Rattle.store.specs.declared.Head.{Head}
 use Rattle.store.specs.declared.Seen.{Seen}
 use Rattle.store.specs.declared.Seen.TheVariants.{Var, Con, Call, Fwd}
-use Rattle.machine.specs.declared.Called.{Called}
-use Rattle.machine.specs.declared.Called.TheVariants.{Nothing, Fun}
-use Rattle.machine.specs.declared.Arm.{Arm}
-use Rattle.machine.specs.declared.Arm.TheVariants.{None, Of}
+use Rattle.book.specs.declared.FunNo.{FunNo}
+use Rattle.store.specs.declared.NodeNo.{NodeNo}
 use Rattle.machine.specs.declared.Regs.{Regs}
-use Rattle.machine.specs.declared.Cur.{Cur}
-use Rattle.machine.specs.declared.Cur.TheVariants.{Empty, Holds}
+use Rattle.machine.specs.declared.Ended.{Ended}
 use Rattle.machine.specs.declared.Op.{Op}
 use Rattle.machine.specs.declared.Op.TheVariants.{Load, Branch, Go, Push, Pop, MakeAnon, StoreVar, MakeVar, MakeTerm, Replace, Narrow, Choice, Fail, Wrong}
 use Rattle.machine.specs.declared.Stop.{Stop}
@@ -50,28 +47,22 @@ pre_terms L base s k = terms_of k (drop (base + terms_at) (rest_of L s))
 unfoldable pub free_vars : ℕ → ℕ → List ℕ → ℕ → List ℕ
 free_vars L base s k = take k (drop (base + vars_at) (rest_of L s))
 
--- the current register: whether it holds a node, and which
-unfoldable pub cur_in : Bool → ℕ → Option ℕ
-cur_in true n = some n
-cur_in false n = none
-
--- a node, if there is one
-unfoldable pub cur_of : Cur → Option ℕ
-cur_of Empty = none
-cur_of (Holds n) = some n.0
+-- the current register: a node, if there is one
+unfoldable pub cur_of : Option NodeNo → pure.Option ℕ
+cur_of None = pure.none
+cur_of (Some n) = pure.some n.0
 
 -- the node at one step of a position
-unfoldable pub child_of : Graph → ℕ → ℕ → Option ℕ
+unfoldable pub child_of : Graph → ℕ → ℕ → pure.Option ℕ
 child_of g h p = get_elem? (args (look g h)) (p - 1)
-
--- the steps that are there of `count` from place `from` on end before place `end`
-pub record StepsEnd (code : List ℕ) (from count end : ℕ) : Type 0 where
-  pub there : end ≤ length code
-  pub steps : take (end - from) (drop from code) ≡ take count (drop from code)
 
 -- the machine's state
 unfoldable pub state_of : ℕ → ℕ → List ℕ → Regs → List ℕ → m.State Store
-state_of L base code r s = m.st (drop r.pc code) (stack_of L s r.top) (cur_in r.holds r.cur.0) (pre_terms L base s r.terms) (free_vars L base s r.vars) (store_of L r.made s)
+state_of L base code r s = m.st (drop r.pc code) (stack_of L s r.top) (cur_of r.cur) (pre_terms L base s r.terms) (free_vars L base s r.vars) (store_of L r.made s)
+
+-- the registers that a call's code begins with: all are empty
+abbrev pub emptied : ℕ → ℕ → Regs
+emptied top made = record { pc = 0; top = top; cur = None; terms = 0; vars = 0; made = made }
 
 -- the instruction that an operation at place `at` of the code is
 unfoldable pub op_of : List ℕ → ℕ → Op → c.Instr
@@ -112,26 +103,16 @@ unfoldable pub SymbolAt : List ℕ → ℕ → Head → Type 0
 SymbolAt code at h = symbol_of h ≡ c.symbol (drop at code)
 
 -- an arm, if there is one
-unfoldable pub arm_is : Arm → Option ℕ
-arm_is None = none
-arm_is (Of j) = some j
+unfoldable pub arm_is : Option ℕ → pure.Option ℕ
+arm_is None = pure.none
+arm_is (Some j) = pure.some j
 
 -- which function what is seen calls
-abbrev pub called_of : Seen → Called
-called_of Var = Nothing
-called_of (Con y n) = Nothing
-called_of (Call f n) = Fun f
-called_of (Fwd t) = Nothing
-
--- the call that is walked instead
-abbrev pub demand_of : Stop → Cur
-demand_of (Demand h) = Holds h
-demand_of (Becomes h k) = Empty
-demand_of (Parts h) = Empty
-demand_of Fails = Empty
-demand_of Misfits = Empty
-demand_of Broken = Empty
-demand_of Full = Empty
+abbrev pub called_of : Seen → Option FunNo
+called_of Var = None
+called_of (Con y n) = None
+called_of (Call f n) = Some f
+called_of (Fwd t) = None
 
 -- how code ended; the alternatives' terms are the pre-term stack, the first alternative deepest
 unfoldable pub stop_of : ℕ → ℕ → List ℕ → Regs → Stop → m.Stop Store
@@ -144,6 +125,11 @@ stop_of L base s r Broken = m.broken
 stop_of L base s r Full = m.full
 
 -- how an instruction ended: the code goes on, or ends
-unfoldable pub ran_of : ℕ → ℕ → List ℕ → List ℕ → Regs → Bool → Stop → m.Step Store
-ran_of L base code s r true x = m.on (state_of L base code r s)
-ran_of L base code s r false x = m.ends (stop_of L base s r x)
+unfoldable pub ran_of : ℕ → ℕ → List ℕ → List ℕ → Result Regs Ended → m.Step Store
+ran_of L base code s (Ok r) = m.on (state_of L base code r s)
+ran_of L base code s (Err e) = m.ends (stop_of L base s e.regs e.stop)
+
+-- the registers after it
+abbrev pub after : Result Regs Ended → Regs
+after (Ok r) = r
+after (Err e) = e.regs

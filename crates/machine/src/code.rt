@@ -12,10 +12,7 @@ use store::Head;
 pub fn byte_at(code: &[u8], i: usize) -> u8
     ensures { result ≡ get_or code.now i 0 }
 {
-    if i < code.len() {
-        return code[i];
-    }
-    0
+    if i < code.len() { code[i] } else { 0 }
 }
 
 // MAKETERM's symbol.
@@ -24,11 +21,11 @@ fn symbol_at(code: &[u8], at: usize) -> Head
     ensures { SymbolAt code.now at result }
 {
     let y = byte_at(code, at + 1);
-    let kind = byte_at(code, at);
-    if kind == 0 {
-        return Head::Makes(ConNo(y));
+    if byte_at(code, at) == 0 {
+        Head::Makes(ConNo(y))
+    } else {
+        Head::Calls(FunNo(y))
     }
-    Head::Calls(FunNo(y))
 }
 
 // The operation at a place.
@@ -37,15 +34,8 @@ pub fn decode_at(code: &[u8], pc: usize) -> Op
     requires pc_in_bounds { pc < length code.now }
     ensures { op_of code.now pc result ≡ decode (drop pc code.now) }
 {
-    let k = code[pc];
-    match k {
-        0x30 => {
-            let b = byte_at(code, pc + 1);
-            if b < 8 {
-                return Op::Load(b);
-            }
-            Op::Load(8)
-        }
+    match code[pc] {
+        0x30 => Op::Load(byte_at(code, pc + 1).min(8)),
         0x31 => Op::Branch(byte_at(code, pc + 1)),
         0x32 => Op::Go,
         0x33 => Op::Push,
@@ -68,19 +58,10 @@ pub fn width_of(op: Op) -> usize
 {
     match op {
         Op::Load(_) => 10,
-        Op::Branch(_) => 2,
+        Op::Branch(_) | Op::StoreVar(_) | Op::MakeVar(_) => 2,
         Op::Go => 5,
-        Op::Push => 1,
-        Op::Pop => 1,
-        Op::MakeAnon => 1,
-        Op::StoreVar(_) => 2,
-        Op::MakeVar(_) => 2,
         Op::MakeTerm(_) => 3,
-        Op::Replace => 1,
-        Op::Narrow => 1,
-        Op::Choice => 1,
-        Op::Fail => 1,
-        Op::Wrong => 1,
+        _ => 1,
     }
 }
 
@@ -90,9 +71,12 @@ pub fn jump_to(code: &[u8], pc: usize, j: usize) -> usize
     ensures { result ≡ from_four (drop (5 * j + 1) (drop pc code.now)) }
 {
     let at = pc + (5 * j + 1);
-    let d = byte_at(code, at + 3) as usize;
-    let a = byte_at(code, at) as usize;
-    let b = byte_at(code, at + 1) as usize;
-    let c = byte_at(code, at + 2) as usize;
-    a + 256 * (b + 256 * (c + 256 * d))
+    let last = byte_at(code, at + 3);
+    let bytes = [
+        byte_at(code, at),
+        byte_at(code, at + 1),
+        byte_at(code, at + 2),
+        last,
+    ];
+    u32::from_le_bytes(bytes) as usize
 }

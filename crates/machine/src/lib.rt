@@ -11,24 +11,18 @@ pub mod ops;
 pub mod steps;
 pub mod tables;
 
-use book::FunNo;
+ghost use Rattle.std.specs.Prelude.{◌≡◌};
+ghost use Rattle.machine.specs.View.{emptied};
+
 use store::{Head, NodeNo};
 
-// Nothing, or a node.
-#[derive(Clone, Copy)]
-pub enum Cur {
-    Empty,
-    Holds(NodeNo),
-}
-
-// What the machine carries: the place in the code, the stack's top + 1 (0: empty), whether there is a current node and which, how
-// many entries the pre-term stack and the free-variable registers have, and how many nodes are made.
+// What the machine carries: the place in the code, the stack's top + 1, as a link in the memory is (0: empty), the current node if
+// there is one, how many entries the pre-term stack and the free-variable registers have, and how many nodes are made.
 #[derive(Clone, Copy)]
 pub struct Regs {
     pub pc: usize,
     pub top: u16,
-    pub holds: bool,
-    pub cur: NodeNo,
+    pub cur: Option<NodeNo>,
     pub terms: usize,
     pub vars: usize,
     pub made: usize,
@@ -66,31 +60,32 @@ pub enum Stop {
     Full,
 }
 
-// What an instruction gives: the registers, whether the code goes on, and how it ends if not. A flag and not a case of its own,
-// so that compiled code keeps it out of memory.
-#[derive(Clone, Copy)]
-pub struct Ran {
-    pub regs: Regs,
-    pub goes: bool,
-    pub stop: Stop,
-}
-
+// Where and how code ended. An instruction gives the registers that the code goes on with, or this.
 #[derive(Clone, Copy)]
 pub struct Ended {
     pub regs: Regs,
     pub stop: Stop,
 }
 
-// A BRANCH's arm for a constructor.
-#[derive(Clone, Copy)]
-pub enum Arm {
-    None,
-    Of(u16),
-}
+impl Regs {
+    // What a call's code begins with: all registers empty.
+    pub fn emptied(top: u16, made: usize) -> Regs
+        ensures { result ≡ emptied top made }
+    {
+        Regs {
+            pc: 0,
+            top,
+            cur: None,
+            terms: 0,
+            vars: 0,
+            made,
+        }
+    }
 
-// Which function what is seen calls.
-#[derive(Clone, Copy)]
-pub enum Called {
-    Nothing,
-    Fun(FunNo),
+    // The code ends here.
+    fn ends(self, stop: Stop) -> Result<Regs, Ended>
+        ensures { result ≡ Err (record { regs = self; stop = stop }) }
+    {
+        Err(Ended { regs: self, stop })
+    }
 }

@@ -3,299 +3,172 @@
 ghost use Rattle.std.specs.Prelude.{◌≡◌, ◌+◌, ◌-◌, ◌<◌, ◌≤◌, take, drop};
 ghost use Rattle.heap.specs.Graph as g;
 ghost use Rattle.store.specs.Rows.{seen};
-ghost use Rattle.store.specs.Regions.{Room, graph_of};
-ghost use Rattle.store.proofs.Laws.{count_of};
+ghost use Rattle.store.specs.Whole.{graph};
 ghost use Rattle.engine.specs.Code as c;
 ghost use Rattle.engine.specs.Machine as m;
 ghost use Rattle.machine.specs.Tables.{Space, code_bound};
-ghost use Rattle.machine.specs.View.{cur_of, child_of, StepsEnd, state_of};
+ghost use Rattle.machine.specs.View.{cur_of, child_of, state_of};
 ghost use Rattle.machine.specs.Contract.{run_on, Fine, Went};
 
-use crate::{Arm, Cur, Ran, Regs, Stop, code, tables};
-use store::{NodeNo, Seen};
+use crate::{Ended, Regs, Stop, code, tables};
+use store::{NodeNo, Seen, Store};
 
 // What stands at a node; beyond the nodes, a variable.
-pub fn node_at(s: &[u8], limit: usize, n: NodeNo) -> Seen
-    requires { Room limit s.now }
-    ensures { result ≡ seen (g.node (graph_of limit s.now) n.0) }
+pub fn node_at(store: &Store, n: NodeNo) -> Seen
+    ensures { result ≡ seen (g.node (graph store.now) n.0) }
 {
-    if n.0 as usize >= limit {
+    if n.0 as usize >= store.limit {
         return Seen::Var;
     }
-    store::look(s, limit, n)
+    store.look(n)
 }
 
 // The argument of a node that a position's step leads to, counted from 1.
-pub fn child(s: &[u8], limit: usize, n: NodeNo, step: u8) -> Cur
-    requires { Room limit s.now }
-    ensures { cur_of result ≡ child_of (graph_of limit s.now) n.0 step }
+pub fn child(store: &Store, n: NodeNo, step: u8) -> Option<NodeNo>
+    ensures { cur_of result ≡ child_of (graph store.now) n.0 step }
 {
-    let at = store::follow(s, limit, n);
-    let k = node_at(s, limit, at);
-    let count = args_of(k);
-    let j = before(step);
+    let at = store.follow(n);
+    let count = node_at(store, at).count();
+    let j = step.saturating_sub(1) as u16;
     if j >= count {
-        return Cur::Empty;
+        return None;
     }
-    Cur::Holds(store::arg(s, limit, at, j))
+    Some(store.arg(at, j))
 }
 
-// One less, and 0 for 0.
-fn before(step: u8) -> u16
-    ensures { result ≡ step - 1 }
-{
-    if step == 0 {
-        return 0;
-    }
-    (step - 1) as u16
-}
-
-// How many arguments what is seen has.
-fn args_of(k: Seen) -> u16
-    ensures { result ≡ count_of k }
-{
-    match k {
-        Seen::Var => 0,
-        Seen::Con(_, n) => n,
-        Seen::Call(_, n) => n,
-        Seen::Fwd(_) => 0,
-    }
-}
-
-// Where `count` steps from place `from` on end in the code.
-fn steps_end(code: &[u8], from: usize, count: u8) -> usize
+// The steps of a position: `count` bytes of the code from place `from` on, as far as it has them.
+fn steps_of(code: &[u8], from: usize, count: u8) -> &[u8]
     requires { from ≤ code_bound + 16 }
-    ensures { StepsEnd code.now from count result }
+    ensures { result.now ≡ take count (drop from code.now) }
 {
-    let end = from + (count as usize);
-    if end > code.len() {
-        return code.len();
-    }
-    end
+    let start = from.min(code.len());
+    let end = (start + (count as usize)).min(code.len());
+    &code[start..end]
 }
 
 // The node at a position under a node: its steps are `count` bytes of the code.
-pub fn walk(s: &[u8], limit: usize, code: &[u8], from: usize, count: u8, n: NodeNo) -> Cur
-    requires room { Room limit s.now }
+pub fn walk(store: &Store, code: &[u8], from: usize, count: u8, n: NodeNo) -> Option<NodeNo>
     requires from_bound { from ≤ code_bound + 16 }
-    ensures { cur_of result ≡ m.at (graph_of limit s.now) n.0 (take count (drop from code.now)) }
+    ensures { cur_of result ≡ m.at (graph store.now) n.0 (take count (drop from code.now)) }
 {
-    let end = steps_end(code, from, count);
     let mut h = n;
-    let mut i = from;
-    while i < end {
-        let k = child(s, limit, h, code[i]);
-        let Cur::Holds(next) = k else {
-            return Cur::Empty;
-        };
-        h = next;
-        i += 1;
+    let steps = steps_of(code, from, count);
+    for step in steps {
+        h = child(store, h, *step)?;
     }
-    Cur::Holds(h)
+    Some(h)
 }
 
 // LOAD: the node at a position under the stack's top becomes the current one.
 pub fn load(
-    s: &[u8],
-    limit: usize,
+    store: &Store,
     base: usize,
     code: &[u8],
     regs: Regs,
     from: usize,
     count: u8,
-) -> Ran
-    requires space { Space limit base s.now }
+) -> Result<Regs, Ended>
+    requires space { Space store.now.limit base store.now.bytes.now }
     requires fine { Fine regs }
     requires from_bound { from ≤ code_bound + 16 }
-    ensures { Went limit base code.now regs s.now s.now result (λ p. run_on p (c.load (take count (drop from code.now))) (state_of limit base code.now regs s.now)) }
+    ensures { Went store.now.limit base code.now regs store.now.bytes.now store.now.bytes.now result (λ p. run_on p (c.load (take count (drop from code.now))) (state_of store.now.limit base code.now regs store.now.bytes.now)) }
 {
     if regs.top == 0 {
-        return Ran {
-            regs: regs,
-            goes: false,
-            stop: Stop::Broken,
-        };
+        return regs.ends(Stop::Broken);
     }
-    let k = walk(s, limit, code, from, count, NodeNo(regs.top - 1));
-    let Cur::Holds(h) = k else {
-        return Ran {
-            regs: regs,
-            goes: false,
-            stop: Stop::Broken,
-        };
+    let Some(h) = walk(store, code, from, count, NodeNo(regs.top - 1)) else {
+        return regs.ends(Stop::Broken);
     };
-    Ran {
-        regs: Regs {
-            pc: regs.pc,
-            top: regs.top,
-            holds: true,
-            cur: h,
-            terms: regs.terms,
-            vars: regs.vars,
-            made: regs.made,
-        },
-        goes: true,
-        stop: Stop::Broken,
-    }
+    Ok(Regs {
+        cur: Some(h),
+        ..regs
+    })
 }
 
 // BRANCH by the current node: a call is walked instead, a constructor of the type leads to its GO, one of another type is a
 // misfit, a variable leads to the first GO.
-pub fn branch(s: &[u8], limit: usize, base: usize, code: &[u8], regs: Regs, t: u8) -> Ran
-    requires space { Space limit base s.now }
+pub fn branch(store: &Store, base: usize, code: &[u8], regs: Regs, t: u8) -> Result<Regs, Ended>
+    requires space { Space store.now.limit base store.now.bytes.now }
     requires fine { Fine regs }
     requires pc_bound { regs.pc ≤ code_bound + 16 }
-    ensures { Went limit base code.now regs s.now s.now result (λ p. run_on p (c.branch t) (state_of limit base code.now regs s.now)) }
+    ensures { Went store.now.limit base code.now regs store.now.bytes.now store.now.bytes.now result (λ p. run_on p (c.branch t) (state_of store.now.limit base code.now regs store.now.bytes.now)) }
 {
-    if !regs.holds {
-        return Ran {
-            regs: regs,
-            goes: false,
-            stop: Stop::Broken,
-        };
-    }
-    let h = regs.cur;
-    let at = store::follow(s, limit, h);
-    let k = node_at(s, limit, at);
-    match k {
-        Seen::Call(_, _) => Ran {
-            regs: regs,
-            goes: false,
-            stop: Stop::Demand(at),
-        },
+    let Some(h) = regs.cur else {
+        return regs.ends(Stop::Broken);
+    };
+    let at = store.follow(h);
+    match node_at(store, at) {
+        Seen::Call(_, _) => regs.ends(Stop::Demand(at)),
         Seen::Con(y, _) => {
-            let a = tables::arm_of(s, limit, base, t, y);
-            match a {
-                Arm::Of(j) => {
-                    let mut r = regs;
-                    r.pc = code::jump_to(code, regs.pc, (j as usize) + 1);
-                    Ran {
-                        regs: r,
-                        goes: true,
-                        stop: Stop::Broken,
-                    }
-                }
-                Arm::None => Ran {
-                    regs: regs,
-                    goes: false,
-                    stop: Stop::Misfits,
-                },
-            }
+            let Some(j) = tables::arm_of(store, base, t, y) else {
+                return regs.ends(Stop::Misfits);
+            };
+            let pc = code::jump_to(code, regs.pc, (j as usize) + 1);
+            Ok(Regs { pc, ..regs })
         }
         Seen::Var => {
-            let mut r = regs;
-            r.pc = code::jump_to(code, regs.pc, 0);
-            Ran {
-                regs: r,
-                goes: true,
-                stop: Stop::Broken,
-            }
+            let pc = code::jump_to(code, regs.pc, 0);
+            Ok(Regs { pc, ..regs })
         }
-        Seen::Fwd(_) => Ran {
-            regs: regs,
-            goes: false,
-            stop: Stop::Broken,
-        },
+        Seen::Fwd(_) => regs.ends(Stop::Broken),
     }
 }
 
 // POP: the top of the pre-term stack becomes the current node.
-pub fn pop(s: &[u8], limit: usize, base: usize, code: &[u8], regs: Regs) -> Ran
-    requires space { Space limit base s.now }
+pub fn pop(store: &Store, base: usize, code: &[u8], regs: Regs) -> Result<Regs, Ended>
+    requires space { Space store.now.limit base store.now.bytes.now }
     requires fine { Fine regs }
-    ensures { Went limit base code.now regs s.now s.now result (λ p. run_on p c.pop (state_of limit base code.now regs s.now)) }
+    ensures { Went store.now.limit base code.now regs store.now.bytes.now store.now.bytes.now result (λ p. run_on p c.pop (state_of store.now.limit base code.now regs store.now.bytes.now)) }
 {
     if regs.terms == 0 {
-        return Ran {
-            regs: regs,
-            goes: false,
-            stop: Stop::Broken,
-        };
+        return regs.ends(Stop::Broken);
     }
-    let k = store::get_rest(s, limit, base + 2696 + (regs.terms - 1));
-    Ran {
-        regs: Regs {
-            pc: regs.pc,
-            top: regs.top,
-            holds: true,
-            cur: NodeNo(k),
-            terms: regs.terms - 1,
-            vars: regs.vars,
-            made: regs.made,
-        },
-        goes: true,
-        stop: Stop::Broken,
-    }
+    let k = store.rest(base + 2696 + (regs.terms - 1));
+    Ok(Regs {
+        cur: Some(NodeNo(k)),
+        terms: regs.terms - 1,
+        ..regs
+    })
 }
 
 // REPLACE: the call on the stack's top becomes a forward to the current node.
-pub fn replace(s: &[u8], limit: usize, base: usize, code: &[u8], regs: Regs) -> Ran
-    requires space { Space limit base s.now }
+pub fn replace(store: &Store, base: usize, code: &[u8], regs: Regs) -> Result<Regs, Ended>
+    requires space { Space store.now.limit base store.now.bytes.now }
     requires fine { Fine regs }
-    ensures { Went limit base code.now regs s.now s.now result (λ p. run_on p c.replace (state_of limit base code.now regs s.now)) }
+    ensures { Went store.now.limit base code.now regs store.now.bytes.now store.now.bytes.now result (λ p. run_on p c.replace (state_of store.now.limit base code.now regs store.now.bytes.now)) }
 {
     if regs.top == 0 {
-        return Ran {
-            regs: regs,
-            goes: false,
-            stop: Stop::Broken,
-        };
+        return regs.ends(Stop::Broken);
     }
-    if !regs.holds {
-        return Ran {
-            regs: regs,
-            goes: false,
-            stop: Stop::Broken,
-        };
-    }
-    let h = regs.cur;
-    let at = store::follow(s, limit, NodeNo(regs.top - 1));
-    Ran {
-        regs: regs,
-        goes: false,
-        stop: Stop::Becomes(at, h),
-    }
+    let Some(h) = regs.cur else {
+        return regs.ends(Stop::Broken);
+    };
+    let at = store.follow(NodeNo(regs.top - 1));
+    regs.ends(Stop::Becomes(at, h))
 }
 
 // NARROW: the current node, a variable, has the pre-term stack's terms as its alternatives.
-pub fn narrow(s: &[u8], limit: usize, base: usize, code: &[u8], regs: Regs) -> Ran
-    requires space { Space limit base s.now }
+pub fn narrow(store: &Store, base: usize, code: &[u8], regs: Regs) -> Result<Regs, Ended>
+    requires space { Space store.now.limit base store.now.bytes.now }
     requires fine { Fine regs }
-    ensures { Went limit base code.now regs s.now s.now result (λ p. run_on p c.narrow (state_of limit base code.now regs s.now)) }
+    ensures { Went store.now.limit base code.now regs store.now.bytes.now store.now.bytes.now result (λ p. run_on p c.narrow (state_of store.now.limit base code.now regs store.now.bytes.now)) }
 {
-    if !regs.holds {
-        return Ran {
-            regs: regs,
-            goes: false,
-            stop: Stop::Broken,
-        };
-    }
-    let h = regs.cur;
-    let at = store::follow(s, limit, h);
-    Ran {
-        regs: regs,
-        goes: false,
-        stop: Stop::Parts(at),
-    }
+    let Some(h) = regs.cur else {
+        return regs.ends(Stop::Broken);
+    };
+    let at = store.follow(h);
+    regs.ends(Stop::Parts(at))
 }
 
 // CHOICE: the call on the stack's top has the pre-term stack's terms as its alternatives.
-pub fn choice(s: &[u8], limit: usize, base: usize, code: &[u8], regs: Regs) -> Ran
-    requires space { Space limit base s.now }
+pub fn choice(store: &Store, base: usize, code: &[u8], regs: Regs) -> Result<Regs, Ended>
+    requires space { Space store.now.limit base store.now.bytes.now }
     requires fine { Fine regs }
-    ensures { Went limit base code.now regs s.now s.now result (λ p. run_on p c.choice (state_of limit base code.now regs s.now)) }
+    ensures { Went store.now.limit base code.now regs store.now.bytes.now store.now.bytes.now result (λ p. run_on p c.choice (state_of store.now.limit base code.now regs store.now.bytes.now)) }
 {
     if regs.top == 0 {
-        return Ran {
-            regs: regs,
-            goes: false,
-            stop: Stop::Broken,
-        };
+        return regs.ends(Stop::Broken);
     }
-    let at = store::follow(s, limit, NodeNo(regs.top - 1));
-    Ran {
-        regs: regs,
-        goes: false,
-        stop: Stop::Parts(at),
-    }
+    let at = store.follow(NodeNo(regs.top - 1));
+    regs.ends(Stop::Parts(at))
 }

@@ -6,21 +6,20 @@ use native.Mathlib.Omega.{arith}
 use native.Mathlib.Nat.{add-zero}
 use mathlib.Core.Path.{◌≡◌, refl, ap, sym, ◌∙◌, subst}
 use mathlib.Core.Logic.{◌≢◌, ◌⊎◌, inl, inr}
-use mathlib.Core.Bool.{Bool, true, false}
 use mathlib.Core.List.Memᴰ
 use mathlib.Core.List.{List, [], ◌∷◌, ◌++◌, map, Memᴰ}
 use lib.ListN.{length, get_or, take, drop, length-map}
-use lib.Dec.{ltb}
 use lib.Seq.{take-take, get_or-take}
-use borrow.Author.Tests.{ltb-true, ltb-false, lt-ltb, le-ltb}
-use Rattle.mem.proofs.Laws.{drop-take, take-kept}
+use borrow.Author.Tests.{lt-ltb, le-ltb}
+use Rattle.std.proofs.lemmas.Bool.{cases_lt}
+use Rattle.mem.proofs.Laws.{drop-take}
 use Rattle.heap.specs.Build.{up_from}
 use Rattle.heap.proofs.Laws.Numbers.{up_from-length}
 use Rattle.store.specs.Regions.{rest_of, links_of}
 use Rattle.engine.specs.Machine as m
 use Rattle.standing.specs.Part.{stacks_of}
 use Rattle.pool.specs.declared.Held.{Held}
-use Rattle.pool.specs.Ring.{Sized, chain, stack_of, roots_at, held_in, row_of, place_of, pool_of, SameLinks, RestOnly, RowGot, RowPut, Pushed}
+use Rattle.pool.specs.Ring.{Sized, chain, stack_of, roots_at, held_in, row_of, place_of, pool_of, SameLinks, RowGot, RowPut, Pushed}
 use Rattle.pool.proofs.Laws.{only_wider, row_before, row-behind}
 
 -- a place past the last one is from the first one on
@@ -35,15 +34,8 @@ module _ (places head j : ℕ) where
 
 -- by whether it is past the last one
 module _ (places head j : ℕ) where
-  turns : (head + j < places) ⊎ (places ≤ head + j)
-  turns = go (ltb (head + j) places) refl
-    where
-      go : (b : Bool) → ltb (head + j) places ≡ b → (head + j < places) ⊎ (places ≤ head + j)
-      go true t = inl (ltb-true (head + j) places t)
-      go false t = inr (ltb-false (head + j) places t)
-
   pub place_inside : head < places → j ≤ places → place_of places head j < places
-  place_inside h l = go turns
+  place_inside h l = go (cases_lt (head + j) places)
     where
       go : (head + j < places) ⊎ (places ≤ head + j) → place_of places head j < places
       go (inl u) = rw (place-straight places head j u) u
@@ -55,7 +47,7 @@ module _ (places head j : ℕ) where
 
 -- places less than a round apart differ
 pub place_other : (places head i j : ℕ) → head < places → i < j → j < places → place_of places head i ≢ place_of places head j
-place_other places head i j h l u e = go (turns places head i) (turns places head j)
+place_other places head i j h l u e = go (cases_lt (head + i) places) (cases_lt (head + j) places)
   where
     go : (head + i < places) ⊎ (places ≤ head + i) → (head + j < places) ⊎ (places ≤ head + j) → ⊥
     go (inl a) (inl b) = omega (arith, place-straight places head i a, place-straight places head j b)
@@ -65,7 +57,7 @@ place_other places head i j h l u e = go (turns places head i) (turns places hea
 
 -- the places behind the next front
 pub place-next : (places head j : ℕ) → head < places → j < places → place_of places (place_of places head 1) j ≡ place_of places head (suc j)
-place-next places head j h l = go (turns places head 1)
+place-next places head j h l = go (cases_lt (head + 1) places)
   where
     Goal : Type 0
     Goal = place_of places (place_of places head 1) j ≡ place_of places head (suc j)
@@ -75,7 +67,7 @@ place-next places head j h l = go (turns places head 1)
     on a (inr b) = rw (place-straight places head 1 a, place-round places (head + 1) j b, place-round places head (suc j) (omega arith)) (omega arith)
 
     go : (head + 1 < places) ⊎ (places ≤ head + 1) → Goal
-    go (inl a) = on a (turns places (head + 1) j)
+    go (inl a) = on a (cases_lt (head + 1 + j) places)
     go (inr a) =
         let e : head + 1 - places ≡ 0 = omega arith in
         rw (place-round places head 1 a, e, place-straight places 0 j (omega arith), place-round places head (suc j) (omega arith)) (omega arith)
@@ -108,18 +100,11 @@ pushed L places n head waiting i h s s' hl wl z e f p =
     let inside : i < places = rw f (place_inside places head waiting hl (omega arith)) in
     record {
       is = rows_more (λ j. row_of L s' n (place_of places head j)) waiting 0
-          ∙ ap (λ (l : List m.Held). l ++ row_of L s' n (place_of places head (0 + waiting)) ∷ []) (rows_same _ (λ j. row_of L s n (place_of places head j)) waiting 0 (λ j a b. other j (omega arith) (turns_at (place_of places head j))))
+          ∙ ap (λ (l : List m.Held). l ++ row_of L s' n (place_of places head (0 + waiting)) ∷ []) (rows_same _ (λ j. row_of L s n (place_of places head j)) waiting 0 (λ j a b. other j (omega arith) (cases_lt (place_of places head j) i)))
           ∙ ap (λ (x : m.Held). map (λ j. row_of L s n (place_of places head j)) (up_from 0 waiting) ++ x ∷ []) last;
       only = only_wider p.only (omega arith) (omega arith);
     }
   where
-    turns_at : (k : ℕ) → (k < i) ⊎ (i ≤ k)
-    turns_at k = go (ltb k i) refl
-      where
-        go : (b : Bool) → ltb k i ≡ b → (k < i) ⊎ (i ≤ k)
-        go true t = inl (ltb-true k i t)
-        go false t = inr (ltb-false k i t)
-
     small : n ≤ 9
     small = omega arith
 
@@ -176,11 +161,11 @@ module _ (L places n : ℕ) (s s' : List ℕ) (few : n ≤ 9) (same : take (20 *
 stacks-have : (f : ℕ → m.Held) (w a j x : ℕ) → a ≤ j → j < a + w → Memᴰ x (f j).stack → Memᴰ x (stacks_of (map f (up_from a w)))
 unfolding up_from
 stacks-have f zero a j x h l k = absurd (omega arith)
-stacks-have f (suc w) a j x h l k = go (ltb a j) refl (λ p. stacks-have f w (suc a) j x p (omega arith) k)
+stacks-have f (suc w) a j x h l k = go (cases_lt a j) (λ p. stacks-have f w (suc a) j x p (omega arith) k)
   where
-    go : (b : Bool) → ltb a j ≡ b → (suc a ≤ j → Memᴰ x (stacks_of (map f (up_from (suc a) w)))) → Memᴰ x ((f a).stack ++ stacks_of (map f (up_from (suc a) w)))
-    go true t ih = Memᴰ.append_right (f a).stack (ih (ltb-true a j t))
-    go false t ih = let u = ltb-false a j t in let e : j ≡ a = omega arith in Memᴰ.append_left _ (subst (λ (i : ℕ). Memᴰ x (f i).stack) e k)
+    go : (a < j) ⊎ (j ≤ a) → (suc a ≤ j → Memᴰ x (stacks_of (map f (up_from (suc a) w)))) → Memᴰ x ((f a).stack ++ stacks_of (map f (up_from (suc a) w)))
+    go (inl u) ih = Memᴰ.append_right (f a).stack (ih u)
+    go (inr u) ih = let e : j ≡ a = omega arith in Memᴰ.append_left _ (subst (λ (i : ℕ). Memᴰ x (f i).stack) e k)
 
 -- The pool depends only on the words of the places and on the links of its stacks' entries.
 pub pool-kept : (L places n head waiting : ℕ) (s s' : List ℕ) → n ≤ 9 → head < places → waiting ≤ places → take (20 * places) (rest_of L s') ≡ take (20 * places) (rest_of L s)
@@ -188,12 +173,3 @@ pub pool-kept : (L places n head waiting : ℕ) (s s' : List ℕ) → n ≤ 9 �
 unfolding pool_of
 pool-kept L places n head waiting s s' few h l same k =
     rows_same _ _ waiting 0 (λ j a b. row_kept L places n s s' few same (place_of places head j) (place_inside places head j h (omega arith)) (λ x w. k x (stacks-have (λ j. row_of L s n (place_of places head j)) waiting 0 j x a b w)))
-
--- so a write in the rest past the places keeps it
-pub pool-stays : (L places n head waiting a b : ℕ) (s s' : List ℕ) → n ≤ 9 → head < places → waiting ≤ places → 20 * places ≤ a → RestOnly L a b s s' → pool_of L places n head waiting s' ≡ pool_of L places n head waiting s
-pool-stays L places n head waiting a b s s' few h l f o = pool-kept L places n head waiting s s' few h l (take-kept o.rest (20 * places) f) (λ x w. ap (λ (t : List ℕ). get_or t x 0) o.links)
-
--- and the computation that is held depends on the links of its stack's entries
-pub held_kept : (L : ℕ) (s s' : List ℕ) (h : Held) → SameLinks (links_of L s) (links_of L s') (held_in L s h).stack → held_in L s' h ≡ held_in L s h
-unfolding held_in stack_of
-held_kept L s s' h k = rw (chain-kept (suc L) (links_of L s) (links_of L s') h.top k)

@@ -3,7 +3,7 @@
 --   words 20 i .. 20 i + 20 of the rest    place i: the value's handle, up to eight askers' handles, the stack's top + 1 (0: empty), ten spare words
 --   base + 3016 + 9 i ..                   alternative i, i < 32: the value's handle, the askers'; base is 20 times the number of places
 --
--- Here, in order: room; stacks as chains of links; a computation's handles; rows; the ring; what stays; what the functions do.
+-- Here, in order: room; stacks as chains of links; handles in the rest; rows; the ring; what stays; what the functions do.
 -- Not here: the tables (compiler), that these are the computations of the definition (standing).
 -- Assumes nothing.
 use Rattle.std.specs.Prelude.{ℕ, zero, suc, ◌+◌, ◌-◌, ◌*◌, ◌≤◌, true, false, ◌≡◌, length, get_or, take, drop, ltb}
@@ -11,8 +11,9 @@ use mathlib.Core.List.{List, [], ◌∷◌, ◌++◌, map, Memᴰ}
 use Rattle.mem.specs.Words.{words, Only}
 use Rattle.heap.specs.Build.{up_from}
 use Rattle.store.specs.Regions.{node_bound, graph_of, marks_of, links_of, list_of, places_of, frames_of, rest_of}
+use Rattle.store.specs.Roots.{roots_of}
+use Rattle.store.specs.declared.Roots.{Roots}
 use Rattle.engine.specs.Machine as m
-use Rattle.pool.specs.declared.Roots.{Roots}
 use Rattle.pool.specs.declared.Held.{Held}
 
 -- the first k words of the rest are there
@@ -32,10 +33,6 @@ chain (suc n) l (suc k) = k ∷ chain n l (get_or l k 0)
 -- the stack from a top on: at most as many entries as there are nodes, and one that would be too many
 unfoldable pub stack_of : ℕ → List ℕ → ℕ → List ℕ
 stack_of L s top = chain (suc L) (links_of L s) top
-
--- the handles that are held, the value's first
-unfoldable pub roots_of : Roots → List ℕ
-roots_of r = take r.n r.at
 
 -- n handles from word k of the rest on
 unfoldable pub roots_at : ℕ → List ℕ → ℕ → ℕ → List ℕ

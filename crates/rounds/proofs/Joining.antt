@@ -9,7 +9,8 @@ use mathlib.Core.Path.{◌≡◌, ap, sym, subst, ◌∙◌}
 use mathlib.Core.List.{List, [], ◌∷◌, ◌++◌, append-nil, append_assoc}
 use Rattle.engine.specs.Machine as m
 use Rattle.pool.specs.declared.Held.{Held}
-use Rattle.pool.specs.Ring.{chain, stack_of, roots_of, roots_at, held_in, pool_of, scratch_at, RestOnly, RootsGot, Pushed}
+use Rattle.store.specs.Roots.{roots_of}
+use Rattle.pool.specs.Ring.{chain, stack_of, roots_at, held_in, pool_of, scratch_at, RestOnly, RootsGot, Pushed}
 use Rattle.pool.proofs.Laws.{only_none, both-only, roots-behind}
 use Rattle.alternatives.specs.Copies.{alt_in, alts_in}
 use Rattle.rounds.specs.Around.{Joined}

@@ -1,25 +1,21 @@
 -- Words set to 0 one by one.
 -- Here, in order: one word more; marks and places on the way; all of them.
 -- Assumes nothing.
-use Prim.Native.Nat.{ℕ, zero, suc, ◌+◌, ◌*◌, ◌≤◌, ◌<◌}
+use Prim.Native.Nat.{ℕ, ◌+◌, ◌*◌, ◌≤◌, ◌<◌}
 use native.Mathlib.Omega.{arith}
 use native.Mathlib.Numerals.{add-one}
-use mathlib.Core.Path.{◌≡◌, refl, ap, sym, ◌∙◌}
+use mathlib.Core.Path.{◌≡◌, ap, sym, ◌∙◌}
 use mathlib.Core.List.{List, [], ◌∷◌, ◌++◌}
-use lib.ListN.{length, take, drop, set, replicate}
+use lib.ListN.{length, take, drop, set, replicate, replicate-append-replicate}
 use lib.Seq.{take-suc-set, take-take}
 use Rattle.mem.specs.Words.{words}
 use Rattle.store.specs.Regions.{graph_of, marks_of, places_of, rest_of, Memory, Did, set_mark, set_place}
 use Rattle.store.proofs.Writes.{length-marks, length-places}
 use Rattle.rounds.specs.Around.{Fresh}
 
-zero-behind : (k : ℕ) → replicate {A = ℕ} k 0 ++ 0 ∷ [] ≡ replicate {A = ℕ} (suc k) 0
-zero-behind zero = refl
-zero-behind (suc k) = ap (λ (l : List ℕ). 0 ∷ l) (zero-behind k)
-
 -- one word more
 zeros-more : (l l' : List ℕ) (k : ℕ) → k < length l → take k l ≡ replicate k 0 → l' ≡ set l k 0 → take (k + 1) l' ≡ replicate (k + 1) 0
-zeros-more l l' k h e f = rw (add-one k, f) (take-suc-set l k 0 h ∙ ap (λ (x : List ℕ). x ++ 0 ∷ []) e ∙ zero-behind k)
+zeros-more l l' k h e f = rw (add-one k, f) (take-suc-set l k 0 h ∙ ap (λ (x : List ℕ). x ++ 0 ∷ []) e ∙ replicate-append-replicate k 1 0 ∙ rw add-one)
 
 -- the first k marks and places are 0
 pub record Clearing (L k : ℕ) (s s' : List ℕ) : Type 0 where
@@ -28,9 +24,6 @@ pub record Clearing (L k : ℕ) (s s' : List ℕ) : Type 0 where
   pub graph : graph_of L s' ≡ graph_of L s
   pub rest : rest_of L s' ≡ rest_of L s
   pub long : length (words s') ≡ length (words s)
-
-pub clearing-none : (L : ℕ) (s : List ℕ) → Clearing L 0 s s
-clearing-none L s = record { marks = refl; places = refl; graph = refl; rest = refl; long = refl }
 
 pub clearing-more : {L k : ℕ} {s s₁ s₂ s₃ : List ℕ} → k < L → 16 * L ≤ length (words s) → Clearing L k s s₁ → Did L s₁ s₂ (set_mark k 0) → Did L s₂ s₃ (set_place k 0) → Clearing L (k + 1) s s₃
 clearing-more {L} {k} {s} {s₁} {s₂} {s₃} h r c d e =

@@ -10,10 +10,3 @@ mod results;
 pub use fresh::clear;
 pub use joins::push_all;
 pub use results::put_result;
-
-// Whether a result had room, and how many bytes of results there are then.
-#[derive(Clone, Copy)]
-pub struct Recorded {
-    pub fits: bool,
-    pub at: usize,
-}

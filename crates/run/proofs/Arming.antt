@@ -1,53 +1,55 @@
 -- What follows a turn, by what came of it: the contracts of the step's parts.
--- Here, in order: the state without its front; alternatives; a value.
+-- Here, in order: alternatives; a value.
 -- Assumes nothing.
-use Prim.Native.Nat.{ℕ, ◌+◌, ◌*◌, ◌-◌, ◌≤◌, ◌<◌}
-use native.Mathlib.Omega.{arith}
-use mathlib.Core.Path.{◌≡◌, refl, sym, ◌∙◌}
-use mathlib.Core.Bool.{true, false}
+use Prim.Native.Nat.{ℕ, ◌+◌, ◌*◌, ◌≤◌, ◌<◌}
+use mathlib.Core.Path.{◌≡◌, refl, ◌∙◌}
+use mathlib.Core.Bool.{Bool, true, false}
 use mathlib.Core.List.{List}
 use lib.ListN.{length}
 use lib.Dec.{leb}
 use borrow.Author.Tests.{le-leb, lt-leb}
+use Rattle.std.specs.Prelude.{Option, Some, None, Ok, Err}
 use Rattle.engine.specs.Run as e
-use Rattle.pool.specs.Ring.{place_of}
 use Rattle.pool.proofs.Laws.{only_none}
 use Rattle.rounds.specs.Around.{Joined, ResultPut}
-use Rattle.rounds.specs.declared.Recorded.{Recorded}
+use Rattle.writer.specs.Walk.{pick}
+use Rattle.writer.specs.Owes.{fits}
 use Rattle.run.specs.declared.State.{State}
 use Rattle.run.specs.declared.Answer.TheVariants.{NoPlaces, NoRoom}
-use Rattle.run.specs.declared.Stepped.TheVariants.{Ended, On}
-use Rattle.run.specs.Arms.{after_turn, after_split, after_value, Spread, spread_by, Valued, value_by}
+use Rattle.run.specs.Arms.{after_split, after_value, Spread, spread_by, Valued, value_by}
 
-pub taken_is : (places : ℕ) (st : State) (h : ℕ) → h ≡ place_of places st.head 1
-    → record { head = h; waiting = st.waiting - 1; made = st.made; turns = st.turns + 1; begun = st.begun; split = st.split; values = st.values; failed = st.failed; misfits = st.misfits; written = st.written } ≡ after_turn places st
-taken_is places st h p = λ i. record { head = p i; waiting = st.waiting - 1; made = st.made; turns = st.turns + 1; begun = st.begun; split = st.split; values = st.values; failed = st.failed; misfits = st.misfits; written = st.written }
-
-true-not-false : true ≡ false → ⊥
-true-not-false p = let z : ◌≡◌ {A = ℕ} 0 1 = cc in omega arith
-
-pub spread_none : (l : e.Limits) (n : ℕ) (st : State) (count made : ℕ) (s : List ℕ) → l.pool < st.waiting + count → Spread l n st count made s s (Ended NoPlaces)
+pub spread_none : (l : e.Limits) (n : ℕ) (st : State) (count made : ℕ) (s : List ℕ) → l.pool < st.waiting + count → Spread l n st count made s s (Err NoPlaces)
 unfolding spread_by
 spread_none l n st count made s h =
     let t = lt-leb (st.waiting + count) l.pool h in
-    record { is = rw t; pool = λ u. absurd (true-not-false (sym u ∙ t)); only = only_none l.nodes 0 (20 * l.pool) s; none = λ u. refl }
+    record { is = rw t; pool = λ u. absurd cc; only = only_none l.nodes 0 (20 * l.pool) s; none = λ u. refl }
 
-pub spread-all : (l : e.Limits) (n : ℕ) (st : State) (count made : ℕ) (s s' : List ℕ) → st.waiting + count ≤ l.pool → Joined l.nodes l.pool n st.head st.waiting count s s' → Spread l n st count made s s' (On (after_split st count made))
+pub spread-all : (l : e.Limits) (n : ℕ) (st : State) (count made : ℕ) (s s' : List ℕ) → st.waiting + count ≤ l.pool → Joined l.nodes l.pool n st.head st.waiting count s s' → Spread l n st count made s s' (Ok (after_split st count made))
 unfolding spread_by
 spread-all l n st count made s s' h j =
     let t = le-leb (st.waiting + count) l.pool h in
-    record { is = rw t; pool = λ u. j.is; only = j.only; none = λ u. absurd (true-not-false (sym t ∙ u)) }
+    record { is = rw t; pool = λ u. j.is; only = j.only; none = λ u. absurd cc }
 
-module _ (l : e.Limits) (st : State) (terms s s' results results' : List ℕ) (p : Recorded) (P : ResultPut l.nodes l.results st.written st.turns terms s s' results results' p) where
-  pub value_none : p.fits ≡ false → Valued l st terms s s' results results' (Ended NoRoom)
-  unfolding value_by
-  value_none f =
-      let t : leb (st.written + length (e.result_record st.turns terms)) l.results ≡ false = sym P.fits ∙ f in
-      record { is = rw t; bytes = λ u. absurd (true-not-false (sym u ∙ t)); none = λ _. P.none f; kept = P.kept; clean = P.clean }
+module _ (l : e.Limits) (st : State) (terms s s' results results' : List ℕ) (p : Option ℕ) (P : ResultPut l.nodes l.results st.written st.turns terms s s' results results' p) where
+  abbrev end₁ : ℕ
+  end₁ = st.written + length (e.result_record st.turns terms)
 
-  pub value-all : p.fits ≡ true → Valued l st terms s s' results results' (On (after_value st p.at))
-  unfolding value_by
-  value-all f =
-      let t : leb (st.written + length (e.result_record st.turns terms)) l.results ≡ true = sym P.fits ∙ f in
-      let w = P.written f in
-      record { is = rw (t, w.1); bytes = λ _. w.0; none = λ u. absurd (true-not-false (sym t ∙ u)); kept = P.kept; clean = P.clean }
+  ends : (b : Bool) → leb end₁ l.results ≡ b → p ≡ pick b (Some end₁) None
+  unfolding fits
+  ends b t = P.end ∙ rw t
+
+  pub value_none : p ≡ None → Valued l st terms s s' results results' (Err NoRoom)
+  unfolding pick value_by
+  value_none f = go (leb end₁ l.results) refl
+    where
+      go : (b : Bool) → leb end₁ l.results ≡ b → Valued l st terms s s' results results' (Err NoRoom)
+      go true t = let q = ends true t in absurd cc
+      go false t = record { is = rw t; bytes = λ u. absurd cc; none = λ _. rw f at P.none; kept = P.kept; clean = P.clean }
+
+  pub value-all : (k : ℕ) → p ≡ Some k → Valued l st terms s s' results results' (Ok (after_value st k))
+  unfolding pick value_by
+  value-all k f = go (leb end₁ l.results) refl
+    where
+      go : (b : Bool) → leb end₁ l.results ≡ b → Valued l st terms s s' results results' (Ok (after_value st k))
+      go true t = let q = ends true t in let z : k ≡ end₁ = cc in record { is = rw (t, z); bytes = λ _. rw f at P.written; none = λ u. absurd cc; kept = P.kept; clean = P.clean }
+      go false t = let q = ends false t in absurd cc

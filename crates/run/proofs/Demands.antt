@@ -21,7 +21,8 @@ use Rattle.store.specs.Regions.{AllRoom, Room, graph_of, store_of}
 use Rattle.copier.specs.Listed.{Clean}
 use Rattle.machine.specs.Tables.{code_bound}
 use Rattle.pool.specs.declared.Held.{Held}
-use Rattle.pool.specs.Ring.{Sized, place_of, roots_of, held_in, RowGot}
+use Rattle.store.specs.Roots.{roots_of}
+use Rattle.pool.specs.Ring.{Sized, place_of, held_in, RowGot}
 use Rattle.pool.proofs.Rings.{place_inside}
 use Rattle.writer.specs.Walk.{Reads}
 use Rattle.turns.specs.declared.What.TheVariants.{Split, Wrote}
@@ -95,8 +96,8 @@ module _ (l : e.Limits) (n : ℕ) (code : List ℕ) (st : State) (s results : Li
             let v = b.written in
             ((p.0, omega arith), (value-reads l n code st s results b some held G under s₁ r X R nine w, (((Z l n code st s results b some held G under s₁ r X R).clean, omega arith, omega arith, omega arith), (omega arith, b.most, b.lent))))
 
-        pub end-asks : (f g : ℕ) → f ≤ 1 → g ≤ 1 → (st₁.failed + f ≤ 2000000) × (st₁.misfits + g ≤ 2000000)
-        end-asks f g p q =
+        pub end-asks : (st₁.failed ≤ 1000000) × (st₁.misfits ≤ 1000000)
+        end-asks =
             let y = b.others in let u = b.budget in
             let a : st₁.failed ≡ st.failed = ap (λ (x : State). x.failed) i in
             let c : st₁.misfits ≡ st.misfits = ap (λ (x : State). x.misfits) i in

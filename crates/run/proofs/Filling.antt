@@ -1,4 +1,4 @@
--- Words filled one by one, and the tables ended.
+-- Words filled one by one.
 -- Assumes nothing.
 use Prim.Native.Nat.{ℕ, ◌+◌, ◌*◌, ◌≤◌, ◌<◌}
 use native.Mathlib.Omega.{arith}
@@ -13,7 +13,7 @@ use borrow.Author.Tests.{ltb-true, ltb-false}
 use Rattle.mem.specs.Words.{words}
 use Rattle.store.specs.Regions.{rest_of, Memory, Did, set_rest}
 use Rattle.store.proofs.Writes.{length_rest}
-use Rattle.run.specs.Filled.{WordsFilled, Ended}
+use Rattle.run.specs.Filled.{WordsFilled}
 
 pub filled_none : (L a v : ℕ) (s : List ℕ) → WordsFilled L a a v s s
 filled_none L a v s = record { are = λ j p q. absurd (omega arith); same = λ j p. refl; long = refl }
@@ -40,16 +40,6 @@ filled_more {L} {a} {k} {v} {s} {s₁} {s₂} h room F d = record { are = are; s
     same : (j : ℕ) → (j < a) ⊎ (k + 1 ≤ j) → get_or (rest_of L s₂) j 0 ≡ get_or (rest_of L s) j 0
     same j (inl p) = off j (λ e. omega arith) ∙ F.same j (inl p)
     same j (inr p) = off j (λ e. omega arith) ∙ F.same j (inr (omega arith))
-
-pub ended-all : {L base nf nc : ℕ} {s s₁ s₂ s₃ s₄ : List ℕ} → nf ≤ 256 → nc ≤ 256 → WordsFilled L (base + 2 * nf) (base + 512) 0 s s₁ → WordsFilled L (base + 512 + nf) (base + 768) 0 s₁ s₂ → WordsFilled L (base + 768 + nc) (base + 1024) 0 s₂ s₃
-    → WordsFilled L (base + 1024 + nc) (base + 1280) 65535 s₃ s₄ → Ended L base nf nc s s₄
-ended-all {L} {base} {nf} {nc} h k A B C D = record {
-  no_fun = λ f p q. (D.same _ (inl (omega arith)) ∙ C.same _ (inl (omega arith)) ∙ B.same _ (inl (omega arith)) ∙ A.are _ (omega arith) (omega arith), D.same _ (inl (omega arith)) ∙ C.same _ (inl (omega arith)) ∙ B.same _ (inl (omega arith)) ∙ A.are _ (omega arith) (omega arith), D.same _ (inl (omega arith)) ∙ C.same _ (inl (omega arith)) ∙ B.are _ (omega arith) (omega arith));
-  no_con = λ c p q. (D.same _ (inl (omega arith)) ∙ C.are _ (omega arith) (omega arith), D.are _ (omega arith) (omega arith));
-  start = λ f p. (D.same _ (inl (omega arith)) ∙ C.same _ (inl (omega arith)) ∙ B.same _ (inl (omega arith)) ∙ A.same _ (inl (omega arith)), D.same _ (inl (omega arith)) ∙ C.same _ (inl (omega arith)) ∙ B.same _ (inl (omega arith)) ∙ A.same _ (inl (omega arith)), D.same _ (inl (omega arith)) ∙ C.same _ (inl (omega arith)) ∙ B.same _ (inl (omega arith)) ∙ A.same _ (inr (omega arith)));
-  con = λ c p. (D.same _ (inl (omega arith)) ∙ C.same _ (inl (omega arith)) ∙ B.same _ (inr (omega arith)) ∙ A.same _ (inr (omega arith)), D.same _ (inl (omega arith)) ∙ C.same _ (inr (omega arith)) ∙ B.same _ (inr (omega arith)) ∙ A.same _ (inr (omega arith)), D.same _ (inr (omega arith)) ∙ C.same _ (inr (omega arith)) ∙ B.same _ (inr (omega arith)) ∙ A.same _ (inr (omega arith)));
-  long = D.long ∙ C.long ∙ B.long ∙ A.long;
-}
 
 pub filled-all : {L a k b v : ℕ} {s s' : List ℕ} → k ≡ b → WordsFilled L a k v s s' → WordsFilled L a b v s s'
 filled-all {L} {a} {k} {b} {v} {s} {s'} e F = subst (λ (x : ℕ). WordsFilled L a x v s s') e F

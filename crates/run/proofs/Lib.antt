@@ -11,6 +11,7 @@ pub mod Demands
 pub mod Stepping
 pub mod Shortening
 pub mod Looping
+pub mod Lending
 pub mod Opening
 pub mod Filling
 pub mod Slices

@@ -10,6 +10,8 @@ use mathlib.Core.List.{List, [], ◌∷◌, ◌++◌}
 use lib.ListN.{length, take, length-append}
 use lib.Dec.{leb, ltb}
 use borrow.Author.Tests.{lt-ltb}
+use Rattle.std.specs.Prelude.{Result, Ok, Err}
+use Rattle.std.proofs.Common.{add-zero}
 use Rattle.book.specs.Answers.{Counts, counts}
 use Rattle.heap.specs.Build.{up_from}
 use Rattle.heap.specs.Store.{Store}
@@ -36,12 +38,11 @@ use Rattle.turns.specs.declared.What.TheVariants.{Went, Split, Failed, Misfit, N
 use Rattle.turns.specs.declared.Turned as t
 use Rattle.turns.specs.Front.{Stays, TurnTaken, took_of, with_top}
 use Rattle.run.specs.declared.State.{State}
+use Rattle.run.specs.declared.Answer.{Answer}
 use Rattle.run.specs.declared.Answer.TheVariants.{NoNodes, NoPlaces}
-use Rattle.run.specs.declared.Stepped.{Stepped}
-use Rattle.run.specs.declared.Stepped.TheVariants.{Ended, On}
 use Rattle.run.specs.Given.{answer_is}
 use Rattle.run.specs.Between.{counts_in, moment_of, next_of, Bounded, Runs}
-use Rattle.run.specs.Arms.{after_turn, after_end, after_went, after_split, after_value, WentOn, Spread, spread_by}
+use Rattle.run.specs.Arms.{after_turn, after_failed, after_misfit, after_went, after_split, after_value, WentOn, Spread, spread_by}
 use Rattle.run.proofs.Fronts.{Here, L, base, rest, moment-front, H, front, elsewhere, rest-stays}
 
 -- how many nodes a turn made
@@ -53,29 +54,26 @@ made-is L a b s s' h h' = let x = up_from-length (L - a) a in let y = up_from-le
 counts-are : {a b c d e f g a' b' c' d' e' f' g' : ℕ} → a ≡ a' → b ≡ b' → c ≡ c' → d ≡ d' → e ≡ e' → f ≡ f' → g ≡ g' → counts a b c d e f g ≡ counts a' b' c' d' e' f' g'
 counts-are p q r s t u v = λ i. counts (p i) (q i) (r i) (s i) (t i) (u i) (v i)
 
-plus-zero : (n : ℕ) → n + 0 ≡ n
-plus-zero n = omega arith
-
 module _ (places : ℕ) (st : State) where
   counts-went : (L made : ℕ) (s s' : List ℕ) → st.made ≤ made → made ≤ L → counts_in st ⊕ counts 1 (made_in (store_of L st.made s) (store_of L made s')) 0 0 0 0 0 ≡ counts_in (after_went (after_turn places st) made)
   unfolding counts_in ◌⊕◌
-  counts-went L made s s' h h' = counts-are refl (made-is L st.made made s s' h h') (plus-zero _) (plus-zero _) (plus-zero _) (plus-zero _) (plus-zero _)
+  counts-went L made s s' h h' = counts-are refl (made-is L st.made made s s' h h') (add-zero _) (add-zero _) (add-zero _) (add-zero _) (add-zero _)
 
   counts-split : (L made count : ℕ) (s s' : List ℕ) → st.made ≤ made → made ≤ L → counts_in st ⊕ counts 1 (made_in (store_of L st.made s) (store_of L made s')) count 1 0 0 0 ≡ counts_in (after_split (after_turn places st) count made)
   unfolding counts_in ◌⊕◌
-  counts-split L made count s s' h h' = counts-are refl (made-is L st.made made s s' h h') refl refl (plus-zero _) (plus-zero _) (plus-zero _)
+  counts-split L made count s s' h h' = counts-are refl (made-is L st.made made s s' h h') refl refl (add-zero _) (add-zero _) (add-zero _)
 
   pub counts-value : (w : ℕ) → counts_in st ⊕ counts 1 0 0 0 1 0 0 ≡ counts_in (after_value (after_turn places st) w)
   unfolding counts_in ◌⊕◌
-  counts-value w = counts-are refl (plus-zero _) (plus-zero _) (plus-zero _) refl (plus-zero _) (plus-zero _)
+  counts-value w = counts-are refl (add-zero _) (add-zero _) (add-zero _) refl (add-zero _) (add-zero _)
 
-  counts-failed : counts_in st ⊕ e.tally T.failed ≡ counts_in (after_end (after_turn places st) 1 0)
+  counts-failed : counts_in st ⊕ e.tally T.failed ≡ counts_in (after_failed (after_turn places st))
   unfolding counts_in ◌⊕◌ e.tally
-  counts-failed = counts-are refl (plus-zero _) (plus-zero _) (plus-zero _) (plus-zero _) refl refl
+  counts-failed = counts-are refl (add-zero _) (add-zero _) (add-zero _) (add-zero _) refl (add-zero _)
 
-  counts-misfit : counts_in st ⊕ e.tally T.misfit ≡ counts_in (after_end (after_turn places st) 0 1)
+  counts-misfit : counts_in st ⊕ e.tally T.misfit ≡ counts_in (after_misfit (after_turn places st))
   unfolding counts_in ◌⊕◌ e.tally
-  counts-misfit = counts-are refl (plus-zero _) (plus-zero _) (plus-zero _) (plus-zero _) refl refl
+  counts-misfit = counts-are refl (add-zero _) (add-zero _) (add-zero _) (add-zero _) (add-zero _) refl
 
 -- moments by their parts
 pub moment-is : {μ μ' : Store} {cs cs' : List m.Held} {κ κ' : Counts} {o o' : List ℕ} → μ ≡ μ' → cs ≡ cs' → κ ≡ κ' → o ≡ o' → store_moment μ cs κ o ≡ store_moment μ' cs' κ' o'
@@ -132,7 +130,7 @@ module _ (l : e.Limits) (n : ℕ) (code : List ℕ) (st : State) (s results : Li
   pub others-stay : rest l n code st s results b some held G s₁ ≡ cs₀
   others-stay = rest-stays l n code st s results b some held G R s₁ Z
 
-  pub went-next : r.what ≡ Went → (s₂ : List ℕ) (st₂ : State) → WentOn l n (after_turn l.pool st) (with_top held r.top) r.made s₁ s₂ st₂ → StandsNext R.book R.fine l (e.step (m.turn (compile R.book)) l R.moment) (next_of l n s₂ results (On st₂))
+  pub went-next : r.what ≡ Went → (s₂ : List ℕ) (st₂ : State) → WentOn l n (after_turn l.pool st) (with_top held r.top) r.made s₁ s₂ st₂ → StandsNext R.book R.fine l (e.step (m.turn (compile R.book)) l R.moment) (next_of l n s₂ results (Ok st₂))
   unfolding took_of next_of moment_of store_taken
   went-next w s₂ st₂ W =
       let y = on_store_lem (went (store_of l.nodes r.made s₁) (held_in l.nodes s₁ (with_top held r.top))) (sym took ∙ ap (took_of l.nodes (20 * l.pool) held s s₁ r) w) in
@@ -140,9 +138,9 @@ module _ (l : e.Limits) (n : ℕ) (code : List ℕ) (st : State) (s results : Li
       let q : pool_of l.nodes l.pool n (place_of l.pool st.head 1) (st.waiting - 1 + 1) s₂ ≡ cs₀ ++ held_in l.nodes s₁ (with_top held r.top) ∷ [] = rw p (W.pool ∙ ap (λ (cs : List m.Held). cs ++ held_in l.nodes s₁ (with_top held r.top) ∷ []) others-stay) in
       let z : moment_of l n (after_went (after_turn l.pool st) r.made) s₂ results ≡ store_moment (store_of l.nodes r.made s₁) (cs₀ ++ held_in l.nodes s₁ (with_top held r.top) ∷ []) (counts_in st ⊕ counts 1 (made_in μ₀ (store_of l.nodes r.made s₁)) 0 0 0 0 0) out₀
       = moment-is (store_is l.nodes r.made s₂ s₁ W.only.graph) q (sym (counts-went l.pool st l.nodes r.made s s₁ X.more.0 X.more.1)) refl in
-      stood (next_of l n s₂ results (On st₂)) (y ∙ ap store_next (sym z ∙ ap (λ (x : State). moment_of l n x s₂ results) (sym W.is)))
+      stood (next_of l n s₂ results (Ok st₂)) (y ∙ ap store_next (sym z ∙ ap (λ (x : State). moment_of l n x s₂ results) (sym W.is)))
 
-  pub split-next : (count : ℕ) → r.what ≡ Split count → (s₂ : List ℕ) (g : Stepped) → Spread l n (after_turn l.pool st) count r.made s₁ s₂ g → StandsNext R.book R.fine l (e.step (m.turn (compile R.book)) l R.moment) (next_of l n s₂ results g)
+  pub split-next : (count : ℕ) → r.what ≡ Split count → (s₂ : List ℕ) (g : Result State Answer) → Spread l n (after_turn l.pool st) count r.made s₁ s₂ g → StandsNext R.book R.fine l (e.step (m.turn (compile R.book)) l R.moment) (next_of l n s₂ results g)
   unfolding took_of next_of moment_of store_taken spread_by answer_is
   split-next count w s₂ g W = go (leb (st.waiting - 1 + count) l.pool) refl
     where
@@ -160,11 +158,11 @@ module _ (l : e.Limits) (n : ℕ) (code : List ℕ) (st : State) (s results : Li
 
       go : (a : Bool) → leb (st.waiting - 1 + count) l.pool ≡ a → StandsNext R.book R.fine l (e.step (m.turn (compile R.book)) l R.moment) (next_of l n s₂ results g)
       go false a =
-          let f : g ≡ Ended NoPlaces = W.is ∙ rw a in
+          let f : g ≡ Err NoPlaces = W.is ∙ rw a in
           let v : store_taken l μ₀ cs₀ (counts_in st) out₀ (split (store_of l.nodes r.made s₁) as₀) ≡ store_ends e.no_places = rw (long, many, a, store_taken) in
           stood (next_of l n s₂ results g) (y ∙ v ∙ ap (next_of l n s₂ results) (sym f))
       go true a =
-          let f : g ≡ On (after_split (after_turn l.pool st) count r.made) = W.is ∙ rw a in
+          let f : g ≡ Ok (after_split (after_turn l.pool st) count r.made) = W.is ∙ rw a in
           let q : pool_of l.nodes l.pool n (place_of l.pool st.head 1) (st.waiting - 1 + count) s₂ ≡ cs₀ ++ as₀
           = W.pool a ∙ ap (λ (cs : List m.Held). cs ++ alts_in l.nodes (20 * l.pool) n count s₁) others-stay ∙ ap (λ (k : ℕ). cs₀ ++ alts_in l.nodes (20 * l.pool) k count s₁) (sym G.count) in
           let κ : counts_in (after_split (after_turn l.pool st) count r.made) ≡ counts_in st ⊕ counts 1 (made_in μ₀ (store_of l.nodes r.made s₁)) (length as₀) 1 0 0 0
@@ -175,9 +173,9 @@ module _ (l : e.Limits) (n : ℕ) (code : List ℕ) (st : State) (s results : Li
           let v : store_taken l μ₀ cs₀ (counts_in st) out₀ (split (store_of l.nodes r.made s₁) as₀) ≡ store_next (store_moment (store_of l.nodes r.made s₁) (cs₀ ++ as₀) (counts_in st ⊕ counts 1 (made_in μ₀ (store_of l.nodes r.made s₁)) (length as₀) 1 0 0 0) out₀) = rw (d, store_taken) in
           stood (next_of l n s₂ results g) (y ∙ v ∙ ap store_next (sym z) ∙ ap (next_of l n s₂ results) (sym f))
 
-  pub full-next : r.what ≡ NoneLeft → (s₂ results₂ : List ℕ) → StandsNext R.book R.fine l (e.step (m.turn (compile R.book)) l R.moment) (next_of l n s₂ results₂ (Ended NoNodes))
+  pub full-next : r.what ≡ NoneLeft → (s₂ results₂ : List ℕ) → StandsNext R.book R.fine l (e.step (m.turn (compile R.book)) l R.moment) (next_of l n s₂ results₂ (Err NoNodes))
   unfolding took_of next_of store_taken answer_is
-  full-next w s₂ results₂ = stood (next_of l n s₂ results₂ (Ended NoNodes)) (on_store_lem none_left (sym took ∙ ap (took_of l.nodes (20 * l.pool) held s s₁ r) w))
+  full-next w s₂ results₂ = stood (next_of l n s₂ results₂ (Err NoNodes)) (on_store_lem none_left (sym took ∙ ap (took_of l.nodes (20 * l.pool) held s s₁ r) w))
 
   pub never-lost : r.what ≡ Lost → ⊥
   unfolding took_of
@@ -185,7 +183,7 @@ module _ (l : e.Limits) (n : ℕ) (code : List ℕ) (st : State) (s results : Li
 
   -- a computation that ended is gone; nodes that it made are given up
   ended-next : (f : T.Ending) → store_turn l.nodes (compile R.book) μ₀ (held_in l.nodes s held) ≡ ended f → (st₂ : State) → counts_in st ⊕ e.tally f ≡ counts_in st₂ → st₂.made ≡ st.made → st₂.written ≡ st.written
-      → pool_of l.nodes l.pool n st₂.head st₂.waiting s₁ ≡ rest l n code st s results b some held G s₁ → StandsNext R.book R.fine l (e.step (m.turn (compile R.book)) l R.moment) (next_of l n s₁ results (On st₂))
+      → pool_of l.nodes l.pool n st₂.head st₂.waiting s₁ ≡ rest l n code st s results b some held G s₁ → StandsNext R.book R.fine l (e.step (m.turn (compile R.book)) l R.moment) (next_of l n s₁ results (Ok st₂))
   unfolding e.step e.taken next_of moment_of store_of
   ended-next f p st₂ κ m₂ w₂ c₂ =
       let u : ltb (e.turns_of (counts_in st)) l.budget ≡ true = rw turns-in (lt-ltb st.turns l.budget under) in
@@ -198,12 +196,10 @@ module _ (l : e.Limits) (n : ℕ) (code : List ℕ) (st : State) (s results : Li
       = moment-is (ap (λ (k : ℕ). store_of l.nodes k s₁) (sym m₂)) (sym (c₂ ∙ others-stay)) κ (ap (λ (k : ℕ). take k results) (sym w₂)) in
       subst (λ (x : e.Next m.Kept). StandsNext R.book R.fine l x (store_next (moment_of l n st₂ s₁ results))) (sym d) (both_go (subst (StandsFor R.book R.fine l (e.moment h₀.ks (counts_in st ⊕ e.tally f) out₀)) q v))
 
-  pub failed-next : r.what ≡ Failed → (st₂ : State) → st₂ ≡ after_end (after_turn l.pool st) 1 0 → StandsNext R.book R.fine l (e.step (m.turn (compile R.book)) l R.moment) (next_of l n s₁ results (On st₂))
+  pub failed-next : r.what ≡ Failed → StandsNext R.book R.fine l (e.step (m.turn (compile R.book)) l R.moment) (next_of l n s₁ results (Ok (after_failed (after_turn l.pool st))))
   unfolding took_of
-  failed-next w st₂ i = subst (λ (x : State). StandsNext R.book R.fine l (e.step (m.turn (compile R.book)) l R.moment) (next_of l n s₁ results (On x))) (sym i)
-      (ended-next T.failed (sym took ∙ ap (took_of l.nodes (20 * l.pool) held s s₁ r) w) (after_end (after_turn l.pool st) 1 0) (counts-failed l.pool st) refl refl refl)
+  failed-next w = ended-next T.failed (sym took ∙ ap (took_of l.nodes (20 * l.pool) held s s₁ r) w) (after_failed (after_turn l.pool st)) (counts-failed l.pool st) refl refl refl
 
-  pub misfit-next : r.what ≡ Misfit → (st₂ : State) → st₂ ≡ after_end (after_turn l.pool st) 0 1 → StandsNext R.book R.fine l (e.step (m.turn (compile R.book)) l R.moment) (next_of l n s₁ results (On st₂))
+  pub misfit-next : r.what ≡ Misfit → StandsNext R.book R.fine l (e.step (m.turn (compile R.book)) l R.moment) (next_of l n s₁ results (Ok (after_misfit (after_turn l.pool st))))
   unfolding took_of
-  misfit-next w st₂ i = subst (λ (x : State). StandsNext R.book R.fine l (e.step (m.turn (compile R.book)) l R.moment) (next_of l n s₁ results (On x))) (sym i)
-      (ended-next T.misfit (sym took ∙ ap (took_of l.nodes (20 * l.pool) held s s₁ r) w) (after_end (after_turn l.pool st) 0 1) (counts-misfit l.pool st) refl refl refl)
+  misfit-next w = ended-next T.misfit (sym took ∙ ap (took_of l.nodes (20 * l.pool) held s s₁ r) w) (after_misfit (after_turn l.pool st)) (counts-misfit l.pool st) refl refl refl

@@ -21,8 +21,8 @@ back x e.no_nodes = NoNodes
 back x e.no_places = NoPlaces
 back x e.no_room = NoRoom
 back x e.bad_limits = BadLimits
-back x (e.bad_book w p) = BadBook w p
-back x (e.bad_question w p) = BadQuestion w p
+back x (e.bad_book w p) = BadBook (record { sort = w; at = p })
+back x (e.bad_question w p) = BadQuestion (record { sort = w; at = p })
 back x e.long_code = LongCode
 back x e.never = x
 
@@ -34,8 +34,8 @@ back_is x NoNodes = refl
 back_is x NoPlaces = refl
 back_is x NoRoom = refl
 back_is x BadLimits = refl
-back_is x (BadBook w p) = refl
-back_is x (BadQuestion w p) = refl
+back_is x (BadBook f) = refl
+back_is x (BadQuestion f) = refl
 back_is x LongCode = refl
 
 pub answer-apart : (a a' : Answer) → answer_is a ≡ answer_is a' → a ≡ a'

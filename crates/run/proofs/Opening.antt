@@ -1,14 +1,14 @@
 -- A question asked: the first moment stands in the memory, or the question's nodes do not fit.
--- Here, in order: the question's book by its arities; the store before; nodes that do not fit; the first state; the run from it.
+-- Here, in order: a state with nothing but what waits; the question's book by its arities; the store before; nodes that do not fit; the first state; the run from it.
 -- Assumes nothing.
 use Prim.Native.Nat.{ℕ, suc, ◌+◌, ◌*◌, ◌-◌, ◌≤◌, ◌<◌}
 use native.Mathlib.Omega.{arith}
 use mathlib.Core.Path.{◌≡◌, refl, ap, sym, ◌∙◌, subst}
-use mathlib.Core.Bool.{true, false}
 use mathlib.Core.Option.{none, some}
 use mathlib.Core.List.{List, [], ◌∷◌, map}
 use lib.ListN.{length, get_or, drop}
 use lib.Seq.{get_or-take}
+use Rattle.std.specs.Prelude.{Option, Some, None}
 use Rattle.book.specs.Syntax.{Symbol, con, fun, arity, con_arities}
 use Rattle.book.specs.Accepted.{arity_in}
 use Rattle.book.specs.Answers.{counts}
@@ -39,9 +39,13 @@ use Rattle.run.specs.declared.Answer.TheVariants.{NoNodes}
 use Rattle.run.specs.declared.Done.{Done}
 use Rattle.run.specs.Given.{answer_is}
 use Rattle.run.specs.Between.{counts_in, moment_of, Bounded, Runs, RunDone}
-use Rattle.run.specs.Questions.{Roomy, opening_state, Asks, AskDone}
+use Rattle.run.specs.Questions.{Roomy, Asks, AskDone}
 use Rattle.run.proofs.Tabled.{has_same, has-only}
 use Rattle.run.proofs.Nexts.{moment-is, store_is}
+
+-- as many computations wait as are begun, with so many nodes made, and nothing else has come yet
+abbrev pub opening_state : ℕ → ℕ → State
+opening_state waiting made = record { head = 0; waiting = waiting; made = made; turns = 0; begun = waiting; split = 0; values = 0; failed = 0; misfits = 0; written = 0 }
 
 arities-of : (l : e.Limits) (code s q : List ℕ) (X : Asks l code s q) (rest : List ℕ) → Has (compile X.book) (20 * l.pool) rest → Arities X.book (20 * l.pool) rest
 unfolding compile m.arity_of
@@ -64,12 +68,12 @@ module _ (l : e.Limits) (code s q results : List ℕ) (b : Roomy l s results) (s
   pub build-asks : Asks l code s q → Space l.nodes (20 * l.pool) s₁ × AskedOf l.nodes (20 * l.pool) s₁ q
   build-asks X = let p = b.room in let r = b.pool in let k = Y.long in ((p.0, omega arith, omega arith), asked X)
 
-  module _ (s₂ : List ℕ) (B : Built) (Q : (x : AskedOf l.nodes (20 * l.pool) s₁ q) → Asked l.nodes (20 * l.pool) x s₂ B) where
+  module _ (s₂ : List ℕ) (A : Option Built) (Q : (x : AskedOf l.nodes (20 * l.pool) s₁ q) → Asked l.nodes (20 * l.pool) x s₂ A) where
     term-fine : (X : Asks l code s q) → FineTerm (compile X.book) 0 X.right.vars X.right.term
     term-fine X = question-of X.book X.right (question-fine X.book q X.right X.end X.reads).1
 
     -- the question's nodes do not fit
-    pub ask-none : B.fits ≡ false → (results₁ : List ℕ) → results₁ ≡ results → AskDone l code s q results results₁ (record { answer = NoNodes; state = opening_state 0 0 })
+    pub ask-none : A ≡ None → (results₁ : List ℕ) → results₁ ≡ results → AskDone l code s q results results₁ (record { answer = NoNodes; state = opening_state 0 0 })
     unfolding answer_of e.ask e.closed counts_in answer_is
     ask-none f results₁ z = record {
       is = λ X. (let a : pour (start X.right) (store_of l.nodes 0 s₁) ≡ none = (Q (asked X)).is ∙ rw f in
@@ -79,22 +83,22 @@ module _ (l : e.Limits) (code s q results : List ℕ) (b : Roomy l s results) (s
       written = omega arith;
     }
 
-    pub ask-none-at : B.fits ≡ false → (st : State) → st ≡ opening_state 0 0 → AskDone l code s q results results (record { answer = NoNodes; state = st })
+    pub ask-none-at : A ≡ None → (st : State) → st ≡ opening_state 0 0 → AskDone l code s q results results (record { answer = NoNodes; state = st })
     ask-none-at f st i = subst (λ (x : State). AskDone l code s q results results (record { answer = NoNodes; state = x })) (sym i) (ask-none f results refl)
 
-    module _ (yes : B.fits ≡ true) where
+    module _ (B : Built) (yes : A ≡ Some B) where
       poured : (X : Asks l code s q) → pour (start X.right) (store_of l.nodes 0 s₁) ≡ some (store_of l.nodes B.made s₂, held_in l.nodes s₂ (record { roots = B.roots; top = 0 }))
       unfolding answer_of
       poured X = (Q (asked X)).is ∙ rw yes
 
       few : Asks l code s q → (1 ≤ B.roots.n) × (B.roots.n ≤ 9)
-      few X = let c = (Q (asked X)).count in let v = (question-fine X.book q X.right X.end X.reads).0 in (omega arith, omega arith)
+      few X = let c = rw yes at (Q (asked X)).count in let v = (question-fine X.book q X.right X.end X.reads).0 in (omega arith, omega arith)
 
       low : Asks l code s q → B.made ≤ l.nodes
       unfolding store_of
       low X =
           let c = (question-poured X.book X.fine l (store_of l.nodes 0 s₁) (ready l s₁) X.right (term-fine X) _ _ (poured X)).count in
-          let d = (Q (asked X)).made yes in
+          let d = rw yes at (Q (asked X)).made in
           let r = (ready l s₁).room in
           omega arith
 
@@ -133,7 +137,7 @@ module _ (l : e.Limits) (code s q results : List ℕ) (b : Roomy l s results) (s
         moment₁ : (X : Asks l code s q) → moment_of l B.roots.n (opening_state 1 B.made) s₃ results ≡ store_moment (store_of l.nodes B.made s₂) (held_in l.nodes s₂ (record { roots = B.roots; top = 0 }) ∷ []) (counts 0 (length (start X.right).graph) 1 0 0 0 0) []
         unfolding moment_of counts_in pool_of up_from
         moment₁ X =
-            let d = (Q (asked X)).made yes in
+            let d = rw yes at (Q (asked X)).made in
             moment-is (store_is l.nodes B.made s₃ s₂ P.only.graph) P.is (ap (λ (k : ℕ). counts 0 k 1 0 0 0 0) d) refl
 
         clear₃ : Asks l code s q → Clear l.nodes s₃

@@ -13,13 +13,14 @@ use lib.Dec.{leb}
 use borrow.Author.Tests.{le-leb, lt-leb}
 use Rattle.mem.specs.Words.{words}
 use Rattle.mem.proofs.Laws.{length-words}
-use Rattle.book.specs.declared.Sort.{Sort}
-use Rattle.book.specs.declared.Verdict.{Verdict}
-use Rattle.book.specs.declared.Verdict.TheVariants.{Accepted, BookFault, QuestionFault}
+use Rattle.std.specs.Prelude.{Result, Ok, Err}
+use Rattle.book.specs.declared.Fault.{Fault}
+use Rattle.book.specs.declared.Refusal.{Refusal as Refused-by}
+use Rattle.book.specs.declared.Refusal.TheVariants as refusal
 use Rattle.book.specs.Syntax.{Book, Right}
 use Rattle.book.specs.Record.{Got, got, fault}
 use Rattle.book.specs.Reading.{read_book, read_question}
-use Rattle.book.specs.Answers.{on_question, on_both, check_question}
+use Rattle.book.specs.Answers.{Verdict, on_question, on_both, check_question}
 use Rattle.book.proofs.Acceptance.{book-fine}
 use Rattle.engine.specs.Compile.{compile}
 use Rattle.engine.specs.Machine as m
@@ -28,8 +29,8 @@ use Rattle.agreement.proofs.Refusals as R
 use Rattle.agreement.proofs.Runs.{fine-book, agree}
 use Rattle.agreement.proofs.Answers as ans
 use Rattle.store.specs.Regions.{AllRoom}
-use Rattle.compiler.specs.declared.Compiled.{Compiled}
-use Rattle.compiler.specs.declared.Compiled.TheVariants.{Fits, TooLong, Fault}
+use Rattle.compiler.specs.declared.Refused.{Refused}
+use Rattle.compiler.specs.declared.Refused.TheVariants as refused
 use Rattle.run.specs.declared.Limits.{Limits}
 use Rattle.run.specs.declared.Answer.{Answer}
 use Rattle.run.specs.declared.Answer.TheVariants.{BadLimits, BadBook, BadQuestion, LongCode}
@@ -38,15 +39,15 @@ use Rattle.run.specs.declared.Done.{Done}
 use Rattle.run.specs.Given.{limits_of, lent_of, answer_is, counts_is, answer_of, counts_of, Refusal, Gives, Ran}
 use Rattle.run.specs.Between.{counts_in}
 use Rattle.run.specs.Questions.{Roomy, Asks, AskDone}
-use Rattle.run.specs.Setting.{Lends, SetUp, OverRoom, SettingIs}
-use Rattle.run.specs.Passed.{Passed, refused_by, given_by}
+use Rattle.run.specs.Setting.{Lends, SetUp, SettingIs}
+use Rattle.run.specs.Passed.{Passed, answer_to, answer_for, refused_by, given_by, outcome_of}
 use Rattle.run.proofs.Only.{gives-told}
 use Rattle.run.proofs.Ranges.{InRange, LentFits, size_is, both, range-facts, lent-facts, lent-yes, fit-second}
 
 -- a refusal: every count 0, and nothing was written into any lent memory
-pub gives-refused : (a : Answer) (o : e.Outcome) (r : Outcome) (work work' code code' results : List ℕ) → o ≡ e.refused (answer_is a) → r ≡ refused_by a → work' ≡ work → code' ≡ code → Gives o r work work' code code' results results
+pub gives-refused : (a : Answer) (o : e.Outcome) (work work' code code' results : List ℕ) → o ≡ e.refused (answer_is a) → work' ≡ work → code' ≡ code → Gives o (refused_by a) work work' code code' results results
 unfolding e.refused e.results_of e.code_of e.results_after e.code_after e.over answer_of counts_of counts_is
-gives-refused a o r work work' code code' results p q w c = rw (p, q) (record {
+gives-refused a o work work' code code' results p w c = rw p (record {
   answered = refl;
   counted = refl;
   told = gives-told (e.refused (answer_is a)) (refused_by a) refl refl;
@@ -57,14 +58,14 @@ gives-refused a o r work work' code code' results p q w c = rw (p, q) (record {
 })
 
 -- what a verdict says of book and question
-pub record OnBook (b : List ℕ) (w : Sort) (p : ℕ) : Type 0 where
-  pub is : read_book b ≡ fault w p
+pub record OnBook (b : List ℕ) (f : Fault) : Type 0 where
+  pub is : read_book b ≡ fault f.sort f.at
 
-pub record OnQuestion (b q : List ℕ) (w : Sort) (p : ℕ) : Type 0 where
+pub record OnQuestion (b q : List ℕ) (f : Fault) : Type 0 where
   pub book : Book
   pub end : ℕ
   pub is : read_book b ≡ got book end
-  pub at-fault : read_question book q ≡ fault w p
+  pub at-fault : read_question book q ≡ fault f.sort f.at
 
 pub record OnNone (b q : List ℕ) : Type 0 where
   pub book : Book
@@ -76,9 +77,9 @@ pub record OnNone (b q : List ℕ) : Type 0 where
 
 -- each verdict is one of these
 abbrev Says : List ℕ → List ℕ → Verdict → Type 0
-Says b q Accepted = OnNone b q
-Says b q (BookFault w p) = OnBook b w p
-Says b q (QuestionFault w p) = OnQuestion b q w p
+Says b q (Ok u) = OnNone b q
+Says b q (Err (refusal.Book f)) = OnBook b f
+Says b q (Err (refusal.Question f)) = OnQuestion b q f
 
 says : (b q : List ℕ) → Says b q (check_question b q)
 unfolding check_question on_both on_question
@@ -97,32 +98,27 @@ module _ (l : Limits) (b q work code results : List ℕ) where
   m₀ = lent_of (length work) (length code) (length results)
 
   -- limits or lent memory
-  pub ran-limits : (r : Outcome) (f : Bool) → f ≡ (e.in_range (limits_of l) && e.lent_fits (limits_of l) m₀) → f ≡ false → r ≡ refused_by BadLimits → Ran l b q r work work code code results results
+  pub ran-limits : (f : Bool) → f ≡ (e.in_range (limits_of l) && e.lent_fits (limits_of l) m₀) → f ≡ false → Ran l b q (refused_by BadLimits) work work code code results results
   unfolding e.machine e.checked answer_is
-  ran-limits r f t u p =
+  ran-limits f t u =
       let z : (e.in_range (limits_of l) && e.lent_fits (limits_of l) m₀) ≡ false = sym t ∙ u in
-      record { is = gives-refused BadLimits (e.machine (limits_of l) m₀ b q) r work work code code results (rw (z, e.checked)) p refl refl; work_beyond = refl }
+      record { is = gives-refused BadLimits (e.machine (limits_of l) m₀ b q) work work code code results (rw (z, e.checked)) refl refl; work_beyond = refl }
 
   module _ (f : Bool) (t : f ≡ (e.in_range (limits_of l) && e.lent_fits (limits_of l) m₀)) (u : f ≡ true) where
     fits : (e.in_range (limits_of l) && e.lent_fits (limits_of l) m₀) ≡ true
     fits = sym t ∙ u
 
-    -- the book
-    pub ran-book : (r : Outcome) (v : Verdict) (w : Sort) (p : ℕ) → v ≡ check_question b q → v ≡ BookFault w p → r ≡ refused_by (BadBook w p) → Ran l b q r work work code code results results
+    -- the book, or the question
+    ran-refusal : (r : Refused-by) → Says b q (Err r) → Ran l b q (refused_by (answer_to r)) work work code code results results
     unfolding e.machine e.checked answer_is
-    ran-book r v w p x y z =
-        let k : OnBook b w p = subst (Says b q) (sym x ∙ y) (says b q) in
-        record { is = gives-refused (BadBook w p) (e.machine (limits_of l) m₀ b q) r work work code code results (rw (fits, k.is, e.checked)) z refl refl; work_beyond = refl }
+    ran-refusal (refusal.Book f) k = record { is = gives-refused (BadBook f) (e.machine (limits_of l) m₀ b q) work work code code results (rw (fits, k.is, e.checked)) refl refl; work_beyond = refl }
+    ran-refusal (refusal.Question f) k = record { is = gives-refused (BadQuestion f) (e.machine (limits_of l) m₀ b q) work work code code results (rw (fits, k.is, k.at-fault, e.checked)) refl refl; work_beyond = refl }
 
-    -- the question
-    pub ran-question : (r : Outcome) (v : Verdict) (w : Sort) (p : ℕ) → v ≡ check_question b q → v ≡ QuestionFault w p → r ≡ refused_by (BadQuestion w p) → Ran l b q r work work code code results results
-    unfolding e.machine e.checked answer_is
-    ran-question r v w p x y z =
-        let k : OnQuestion b q w p = subst (Says b q) (sym x ∙ y) (says b q) in
-        record { is = gives-refused (BadQuestion w p) (e.machine (limits_of l) m₀ b q) r work work code code results (rw (fits, k.is, k.at-fault, e.checked)) z refl refl; work_beyond = refl }
+    pub ran-refused : (v : Verdict) (r : Refused-by) → v ≡ check_question b q → v ≡ Err r → (x : Result Done Answer) (a : Answer) → x ≡ Err a → a ≡ answer_to r → Ran l b q (outcome_of x) work work code code results results
+    ran-refused v r x y z a p i = rw (p, i) (ran-refusal r (subst (Says b q) (sym x ∙ y) (says b q)))
 
-    pub all-passed : (v : Verdict) → v ≡ check_question b q → v ≡ Accepted → Passed l b q work code results
-    all-passed v x y = record { limits = fits; verdict = sym x ∙ y }
+    pub all-passed : (v : Verdict) (u : Unit {0}) → v ≡ check_question b q → v ≡ Ok u → Passed l b q work code results
+    all-passed v u x y = record { limits = fits; verdict = sym x ∙ y }
 
 -- a refusal's number is above those of a run that is done
 refusal-high : (a : e.Answer) → Refusal a → 10 ≤ e.number_of a
@@ -139,12 +135,12 @@ refusal-high e.no_room x = absurd x
 refusal-high e.never x = absurd x
 
 -- a run that is done: what was written stands at the start, and beyond it all is as lent
-gives-done : (d : Done) (o : e.Outcome) (r : Outcome) (written work work' code code' results results' : List ℕ) → o ≡ e.outcome (answer_is d.answer) (counts_in d.state) (take d.state.written results') written → r ≡ given_by d
-    → d.state.written ≤ length results' → drop d.state.written results' ≡ drop d.state.written results → code' ≡ written ++ drop (length written) code → (Refusal (answer_of o) → ⊥) → Gives o r work work' code code' results results'
+gives-done : (d : Done) (o : e.Outcome) (written work work' code code' results results' : List ℕ) → o ≡ e.outcome (answer_is d.answer) (counts_in d.state) (take d.state.written results') written
+    → d.state.written ≤ length results' → drop d.state.written results' ≡ drop d.state.written results → code' ≡ written ++ drop (length written) code → (Refusal (answer_of o) → ⊥) → Gives o (given_by d) work work' code code' results results'
 unfolding e.results_of e.code_of e.results_after e.code_after e.over answer_of counts_of counts_is counts_in
-gives-done d o r written work work' code code' results results' p q w h c n =
+gives-done d o written work work' code code' results results' p w h c n =
     let z : length (take d.state.written results') ≡ d.state.written = length-take-le d.state.written results' w in
-    rw (p, q) (record {
+    rw p (record {
       answered = refl;
       counted = refl;
       told = gives-told (e.outcome (answer_is d.answer) (counts_in d.state) (take d.state.written results') written) (given_by d) refl refl;
@@ -178,27 +174,22 @@ module _ (l : Limits) (b q work code results : List ℕ) (P : Passed l b q work 
   reads : (book : Book) (end : ℕ) → read_book b ≡ got book end → read_question book q ≡ got asked.right asked.last
   reads book end t = let a = asked.is in let same : book ≡ asked.book = cc in ap (λ (k : Book). read_question k q) same ∙ asked.asks
 
-  -- the code is too long
-  pub gives-long : (r : Outcome) (work' code' : List ℕ) (s : Compiled) (n : ℕ) → SettingIs b (limits_of l) work work' code code' s → s ≡ TooLong n → r ≡ refused_by LongCode → Gives (e.machine (limits_of l) m₁ b q) r work work' code code' results results
+  -- the code is too long; or a fault, but the book was accepted: there is none in it
+  gives-refusal : (work' code' : List ℕ) (f : Refused) → SettingIs b (limits_of l) work work' code code' (Err f) → Gives (e.machine (limits_of l) m₁ b q) (refused_by (answer_for f)) work work' code code' results results
   unfolding SettingIs e.machine e.checked answer_is
-  gives-long r work' code' s n x y z =
-      let o : OverRoom b (limits_of l) work work' code code' n = subst (SettingIs b (limits_of l) work work' code code') y x in
+  gives-refusal work' code' (refused.TooLong n) o =
       let u = o.long in
       let v = o.over in
       let long : leb (length (compile o.book).code) l.code ≡ false = lt-leb (length (compile o.book).code) l.code (omega arith) in
-      gives-refused LongCode (e.machine (limits_of l) m₁ b q) r work work' code code' results (rw (P.limits, o.is, reads o.book o.end o.is, long, e.checked)) z o.work_stays o.code_stays
+      gives-refused LongCode (e.machine (limits_of l) m₁ b q) work work' code code' results (rw (P.limits, o.is, reads o.book o.end o.is, long, e.checked)) o.work_stays o.code_stays
+  gives-refusal work' code' (refused.Fault f) o = let a = asked.is in absurd cc
 
-  -- the book was accepted: there is no fault in it
-  pub gives-never : (r : Outcome) (work' code' : List ℕ) (s : Compiled) (w : Sort) (p : ℕ) → SettingIs b (limits_of l) work work' code code' s → s ≡ Fault w p → Gives (e.machine (limits_of l) m₁ b q) r work work' code code' results results
-  unfolding SettingIs
-  gives-never r work' code' s w p x y =
-      let f : read_book b ≡ fault w p = subst (SettingIs b (limits_of l) work work' code code') y x in
-      let a = asked.is in
-      let z : ◌≡◌ {A = ℕ} 0 1 = cc in
-      absurd (omega arith)
+  pub gives-unset : (work' code' : List ℕ) (s : Result ℕ Refused) (f : Refused) → SettingIs b (limits_of l) work work' code code' s → s ≡ Err f → (x : Result Done Answer) (a : Answer) → x ≡ Err a → a ≡ answer_for f
+      → Gives (e.machine (limits_of l) m₁ b q) (outcome_of x) work work' code code' results results
+  gives-unset work' code' s f y z x a p i = rw (p, i) (gives-refusal work' code' f (subst (SettingIs b (limits_of l) work work' code code') z y))
 
   -- the code fits
-  module _ (work' code' : List ℕ) (s : Compiled) (n : ℕ) (x : SettingIs b (limits_of l) work work' code code' s) (y : s ≡ Fits n) where
+  module _ (work' code' : List ℕ) (s : Result ℕ Refused) (n : ℕ) (x : SettingIs b (limits_of l) work work' code code' s) (y : s ≡ Ok n) where
     set : SetUp b (limits_of l) work work' code code' n
     unfolding SettingIs
     set = subst (SettingIs b (limits_of l) work work' code code') y x
@@ -235,12 +226,12 @@ module _ (l : Limits) (b q work code results : List ℕ) (P : Passed l b q work 
     not-refused r = let h = refusal-high (answer_of (e.machine (limits_of l) m₁ b q)) r in let k = (ans.accepted-ended accepted).low in let z = ap (λ (o : e.Outcome). e.number_of (answer_of o)) (agree (limits_of l) m₁ b q) in omega arith
 
     -- the question was asked: the definition's answer, counts and results
-    pub gives-asked : (r : Outcome) (d : Done) (work'' results' : List ℕ) → AskDone (limits_of l) (take n code') work' q results results' d → length results' ≡ length results → r ≡ given_by d → Gives (e.machine (limits_of l) m₁ b q) r work work'' code code' results results'
+    pub gives-asked : (d : Done) (work'' results' : List ℕ) → AskDone (limits_of l) (take n code') work' q results results' d → length results' ≡ length results → Gives (e.machine (limits_of l) m₁ b q) (given_by d) work work'' code code' results results'
     unfolding asks
-    gives-asked r d work'' results' D z p =
-        gives-done d (e.machine (limits_of l) m₁ b q) r (compile set.book).code work work'' code code' results results'
+    gives-asked d work'' results' D z =
+        gives-done d (e.machine (limits_of l) m₁ b q) (compile set.book).code work work'' code code' results results'
         (R.machine-asks accepted ∙ ap (λ (c : List ℕ). e.closed c (e.ask (m.turn (compile set.book)) (limits_of l) m.from_start asked.right)) coded ∙ D.is asks ∙ ap (λ (c : List ℕ). e.outcome (answer_is d.answer) (counts_in d.state) (take d.state.written results') c) (sym coded))
-        p (let w = D.written in let v = lent.results in omega arith) D.behind (set.coded ∙ ap (λ (k : ℕ). (compile set.book).code ++ drop k code) set.long) not-refused
+        (let w = D.written in let v = lent.results in omega arith) D.behind (set.coded ∙ ap (λ (k : ℕ). (compile set.book).code ++ drop k code) set.long) not-refused
 
 -- the definition looks at lent lengths only to see that they are enough
 machine-lent : (l : e.Limits) (m m' : e.Lent) (b q : List ℕ) → (e.in_range l && e.lent_fits l m) ≡ true → (e.in_range l && e.lent_fits l m') ≡ true → e.machine l m b q ≡ e.machine l m' b q

@@ -1,5 +1,5 @@
 -- A book set up: its code, and its tables ended at its counts; or its code is too long.
--- Here, in order: the tables ended; room; the tables' words; the three answers.
+-- Here, in order: the tables ended; room; the tables' words; the answers.
 -- Assumes nothing.
 use Prim.Native.Nat.{ℕ, suc, ◌+◌, ◌*◌, ◌-◌, ◌/◌, ◌≤◌}
 use native.Mathlib.Omega.{arith}
@@ -10,9 +10,9 @@ use lib.Seq.{length-take-le}
 use borrow.Rule.Slice.PartMut.{put_same, same_len_mid, mid_of}
 use Rattle.mem.specs.Words.{words}
 use Rattle.mem.proofs.Laws.{length-words}
-use Rattle.book.specs.declared.Sort.{Sort}
-use Rattle.book.specs.declared.Read.{Read}
-use Rattle.book.specs.declared.Read.TheVariants as read
+use Rattle.std.specs.Prelude.{Result, Ok, Err}
+use Rattle.book.specs.declared.Fault.{Fault}
+use Rattle.book.specs.declared.Sizes.{Sizes}
 use Rattle.book.specs.Syntax.{Book, Func, Symbol, con, fun, arity, con_arities}
 use Rattle.book.specs.Record.{fault}
 use Rattle.book.specs.Reading.{read_book}
@@ -24,23 +24,23 @@ use Rattle.engine.specs.Run as e
 use Rattle.agreement.proofs.Places.{offsets-length}
 use Rattle.store.specs.Regions.{rest_of}
 use Rattle.pool.specs.Ring.{RestRoom}
-use Rattle.compiler.specs.declared.Compiled.{Compiled}
-use Rattle.compiler.specs.declared.Compiled.TheVariants.{Fits, TooLong, Fault}
+use Rattle.compiler.specs.declared.Refused.{Refused}
+use Rattle.compiler.specs.declared.Refused.TheVariants as refused
 use Rattle.compiler.specs.Tables.{DoesFit, IsTooLong, CompiledIs}
 use Rattle.machine.proofs.Tabled.{Counted, has-counted}
 use Rattle.run.specs.Filled.{Ended}
-use Rattle.run.specs.Setting.{EndedAt, Lends, SettingIs}
+use Rattle.run.specs.Setting.{EndedAt, Lends, OverRoom, SettingIs}
 use Rattle.run.proofs.Slices.{ending, ending-word}
 
 -- a book that was read, by its answer
-pub book-read : (b cons funcs : List ℕ) (r : Read) (n nc nf : ℕ) → BookIs b cons funcs r → r ≡ read.Book n nc nf → BookRead b cons funcs n nc nf
+pub book-read : (b cons funcs : List ℕ) (r : Result Sizes Fault) (n : Sizes) → BookIs b cons funcs r → r ≡ Ok n → BookRead b cons funcs n.types n.cons n.funcs
 unfolding BookIs
-book-read b cons funcs r n nc nf x q = subst (BookIs b cons funcs) q x
+book-read b cons funcs r n x q = subst (BookIs b cons funcs) q x
 
 -- bytes that are no book have no counts
-pub ended-none : (b cons funcs : List ℕ) (r : Read) (w : Sort) (p : ℕ) → BookIs b cons funcs r → r ≡ read.Fault w p → (L base : ℕ) (s : List ℕ) → EndedAt b L base s s
+pub ended-none : (b cons funcs : List ℕ) (r : Result Sizes Fault) (f : Fault) → BookIs b cons funcs r → r ≡ Err f → (L base : ℕ) (s : List ℕ) → EndedAt b L base s s
 unfolding BookIs
-ended-none b cons funcs r w p x q L base s = record { is = λ book end y. let f : read_book b ≡ fault w p = subst (BookIs b cons funcs) q x in let z : ◌≡◌ {A = ℕ} 0 1 = cc in absurd (omega arith) }
+ended-none b cons funcs r f x q L base s = record { is = λ book end y. let z : read_book b ≡ fault f.sort f.at = subst (BookIs b cons funcs) q x in absurd cc }
 
 -- the counts that were read are the book's
 pub ended_at : {b cons funcs : List ℕ} {n nc nf : ℕ} → BookRead b cons funcs n nc nf → {L base : ℕ} {s s' : List ℕ} → Ended L base nf nc s s' → EndedAt b L base s s'
@@ -121,22 +121,25 @@ module _ (l : e.Limits) (work code : List ℕ) (X : Lends l work code) where
         small = small;
       }
 
-      pub set-fits : SettingIs b l work work' code code' (Fits n)
+      pub set-fits : SettingIs b l work work' code code' (Ok n)
       unfolding SettingIs
       set-fits = record { book = D.book; end = D.end; is = D.is; long = D.long; fits = D.fits; coded = D.stands; tables = has-counted (compile D.book) (20 * l.pool) (rest_of l.nodes work') counted; same = ended.long ∙ ending-long }
 
 -- the compiler's answer, by its cases
-pub does-fit : (b : List ℕ) (room : ℕ) (s s' code code' : List ℕ) (r : Compiled) (n : ℕ) → CompiledIs b room s s' code code' r → r ≡ Fits n → DoesFit b room s s' code code' n
+pub does-fit : (b : List ℕ) (room : ℕ) (s s' code code' : List ℕ) (r : Result ℕ Refused) (n : ℕ) → CompiledIs b room s s' code code' r → r ≡ Ok n → DoesFit b room s s' code code' n
 unfolding CompiledIs
 does-fit b room s s' code code' r n x q = subst (CompiledIs b room s s' code code') q x
 
-pub set_long : (b : List ℕ) (l : e.Limits) (work t code code' : List ℕ) (r : Compiled) (n : ℕ) → CompiledIs b l.code (mid_of (tables_at l) (length work - tables_at l) work) t code code' r → r ≡ TooLong n
-    → SettingIs b l work (ending work (tables_at l) t) code code' (TooLong n)
-unfolding CompiledIs SettingIs
-set_long b l work t code code' r n x q =
-    let y : IsTooLong b l.code (mid_of (tables_at l) (length work - tables_at l) work) t code code' n = subst (CompiledIs b l.code (mid_of (tables_at l) (length work - tables_at l) work) t code code') q x in
+set_long : (b : List ℕ) (l : e.Limits) (work t code code' : List ℕ) (n : ℕ) → IsTooLong b l.code (mid_of (tables_at l) (length work - tables_at l) work) t code code' n → OverRoom b l work (ending work (tables_at l) t) code code' n
+set_long b l work t code code' n y =
     record { book = y.book; end = y.end; is = y.is; long = y.long; over = y.over; work_stays = ap (ending work (tables_at l)) y.tables-kept ∙ put_same (tables_at l) (length work - tables_at l) work; code_stays = y.code-kept }
 
-pub set-fault : (b : List ℕ) (l : e.Limits) (work work' s t code code' : List ℕ) (r : Compiled) (w : Sort) (p : ℕ) → CompiledIs b l.code s t code code' r → r ≡ Fault w p → SettingIs b l work work' code code' (Fault w p)
+-- a refusal of the compiler, handed on as it is
+pub set-refused : (b : List ℕ) (l : e.Limits) (work t code code' : List ℕ) (r : Result ℕ Refused) (f : Refused) → CompiledIs b l.code (mid_of (tables_at l) (length work - tables_at l) work) t code code' r → r ≡ Err f
+    → SettingIs b l work (ending work (tables_at l) t) code code' (Err f)
 unfolding CompiledIs SettingIs
-set-fault b l work work' s t code code' r w p x q = (subst (CompiledIs b l.code s t code code') q x).0
+set-refused b l work t code code' r f x q = go f (subst (CompiledIs b l.code (mid_of (tables_at l) (length work - tables_at l) work) t code code') q x)
+  where
+    go : (f : Refused) → CompiledIs b l.code (mid_of (tables_at l) (length work - tables_at l) work) t code code' (Err f) → SettingIs b l work (ending work (tables_at l) t) code code' (Err f)
+    go (refused.TooLong n) y = set_long b l work t code code' n y
+    go (refused.Fault f) y = y.0

@@ -1,11 +1,10 @@
 -- Limits and lent memory: the tests as facts on numbers.
--- Here, in order: the work memory asked; what each test says; what shows it; what refutes it; both tests.
+-- Here, in order: the work memory asked; what each test says; lent memory that is long enough; both tests.
 -- Assumes nothing.
-use Prim.Native.Nat.{ℕ, ◌+◌, ◌*◌, ◌≤◌}
+use Prim.Native.Nat.{◌+◌, ◌*◌, ◌≤◌}
 use native.Mathlib.Omega.{arith}
 use mathlib.Core.Path.{◌≡◌, refl}
-use mathlib.Core.Bool.{Bool, true, false, ◌&&◌}
-use borrow.Author.Tests.{leb-true, le-leb}
+use mathlib.Core.Bool.{Bool, true, ◌&&◌}
 use Rattle.engine.specs.Run.{Limits, Lent, in_range, work_size, lent_fits}
 
 -- the work memory asked, as a number
@@ -28,61 +27,26 @@ pub record LentFits (l : Limits) (m : Lent) : Type 0 where
   pub results : l.results ≤ m.results
 
 pub both : (a b : Bool) → (a && b) ≡ true → (a ≡ true) × (b ≡ true)
-both true true e = (refl, refl)
-both true false e = let z : ◌≡◌ {A = ℕ} 0 1 = cc in absurd (omega arith)
-both false b e = let z : ◌≡◌ {A = ℕ} 0 1 = cc in absurd (omega arith)
+both a b e = grind arith
 
 pub range-facts : (l : Limits) → in_range l ≡ true → InRange l
 unfolding in_range
-range-facts l t =
-    let a = both _ _ t in
-    let b = both _ _ a.0 in
-    let c = both _ _ b.0 in
-    let d = both _ _ c.0 in
-    let e = both _ _ d.0 in
-    let f = both _ _ e.0 in
-    record {
-      nodes = (leb-true _ _ f.0, leb-true _ _ f.1);
-      pool = (leb-true _ _ e.1, leb-true _ _ d.1);
-      budget = leb-true _ _ c.1;
-      results = leb-true _ _ b.1;
-      code = leb-true _ _ a.1;
-    }
+range-facts l t = record {
+  nodes = (grind arith, grind arith);
+  pool = (grind arith, grind arith);
+  budget = grind arith;
+  results = grind arith;
+  code = grind arith;
+}
 
 pub lent-facts : (l : Limits) (m : Lent) → lent_fits l m ≡ true → LentFits l m
 unfolding lent_fits
-lent-facts l m t =
-    let g = both _ _ t in
-    let h = both _ _ g.0 in
-    record { work = leb-true _ _ h.0; code = leb-true _ _ h.1; results = leb-true _ _ g.1 }
-
-pub range-yes : (l : Limits) → InRange l → true ≡ in_range l
-unfolding in_range
-range-yes l f = rw (le-leb _ _ f.nodes.0, le-leb _ _ f.nodes.1, le-leb _ _ f.pool.0, le-leb _ _ f.pool.1, le-leb _ _ f.budget, le-leb _ _ f.results, le-leb _ _ f.code)
+lent-facts l m t = record { work = grind arith; code = grind arith; results = grind arith }
 
 pub lent-yes : (l : Limits) (m : Lent) → LentFits l m → true ≡ lent_fits l m
 unfolding lent_fits
-lent-yes l m f = rw (le-leb _ _ f.work, le-leb _ _ f.code, le-leb _ _ f.results)
-
-pub range-no : (l : Limits) → (InRange l → ⊥) → false ≡ in_range l
-range-no l n = go (in_range l) refl
-  where
-    go : (b : Bool) → in_range l ≡ b → false ≡ b
-    go true t = absurd (n (range-facts l t))
-    go false t = refl
-
-pub lent-no : (l : Limits) (m : Lent) → (LentFits l m → ⊥) → false ≡ lent_fits l m
-lent-no l m n = go (lent_fits l m) refl
-  where
-    go : (b : Bool) → lent_fits l m ≡ b → false ≡ b
-    go true t = absurd (n (lent-facts l m t))
-    go false t = refl
+lent-yes l m f = grind arith
 
 -- both tests
 pub fit-second : (a b c : Bool) → a ≡ true → c ≡ b → c ≡ (a && b)
-fit-second true b c e f = f
-fit-second false b c e f = let z : ◌≡◌ {A = ℕ} 0 1 = cc in absurd (omega arith)
-
-pub fit-first : (a b : Bool) → a ≡ false → false ≡ (a && b)
-fit-first false b e = refl
-fit-first true b e = let z : ◌≡◌ {A = ℕ} 0 1 = cc in absurd (omega arith)
+fit-second a b c e f = grind arith

@@ -12,6 +12,7 @@ use mathlib.Core.List.Memᴰ
 use mathlib.Core.List.{List, [], ◌∷◌, ◌++◌, Memᴰ}
 use lib.ListN.{get_or}
 use lib.Dec.{leb}
+use Rattle.std.specs.Prelude.{Result}
 use Rattle.book.specs.Syntax.{Book}
 use Rattle.heap.specs.Graph.{Graph, node}
 use Rattle.heap.specs.Place.{NotFwd}
@@ -47,9 +48,9 @@ use Rattle.turns.specs.Front.{TurnTaken, took_of, value_in, Searched, with_top}
 use Rattle.turns.proofs.Grounds.{ours-made, stands-ground}
 use Rattle.turns.proofs.Begins.{value-is}
 use Rattle.run.specs.declared.State.{State}
-use Rattle.run.specs.declared.Stepped.{Stepped}
+use Rattle.run.specs.declared.Answer.{Answer}
 use Rattle.run.specs.Between.{Bounded, AllSearched, SearchedIn, Runs}
-use Rattle.run.specs.Arms.{after_turn, after_end, after_split, after_value, WentOn, Spread}
+use Rattle.run.specs.Arms.{after_turn, after_split, after_value, WentOn, Spread}
 use Rattle.run.proofs.Fronts.{rest, H}
 use Rattle.run.proofs.Nexts.{Z, took, others-stay}
 use Rattle.run.proofs.Values.{pool-same}
@@ -192,14 +193,14 @@ module _ (l : e.Limits) (n : ℕ) (code : List ℕ) (st : State) (s results : Li
         let q : pool_of L l.pool n (place_of l.pool st.head 1) (st.waiting - 1 + 1) s₂ ≡ cs₀ ++ held_in L s₁ (with_top held r.top) ∷ [] = rw p (W.pool ∙ ap (λ (cs : List m.Held). cs ++ held_in L s₁ (with_top held r.top) ∷ []) others-are) in
         subst (λ (x : State). SearchedIn l n x s₂) (sym W.is) (subst (λ (cs : List m.Held). AllSearched L r.made cs s₂) (sym q) (searched-more L st.made r.made (cs₀ ++ held_in L s₁ (with_top held r.top) ∷ []) s₁ s₂ X.more.0 W.only.graph W.only.marks W.only.links (went-searched r.top)))
 
-    pub after-split : (count : ℕ) → r.what ≡ Split count → (s₂ : List ℕ) (g : Stepped) → Spread l n (after_turn l.pool st) count r.made s₁ s₂ g → leb (st.waiting - 1 + count) l.pool ≡ true → SearchedIn l n (after_split (after_turn l.pool st) count r.made) s₂
+    pub after-split : (count : ℕ) → r.what ≡ Split count → (s₂ : List ℕ) (g : Result State Answer) → Spread l n (after_turn l.pool st) count r.made s₁ s₂ g → leb (st.waiting - 1 + count) l.pool ≡ true → SearchedIn l n (after_split (after_turn l.pool st) count r.made) s₂
     after-split count w s₂ g W a =
         let as₀ : List m.Held = alts_in L (20 * l.pool) held.roots.n count s₁ in
         let q : pool_of L l.pool n (place_of l.pool st.head 1) (st.waiting - 1 + count) s₂ ≡ cs₀ ++ as₀ = W.pool a ∙ ap (λ (cs : List m.Held). cs ++ alts_in L (20 * l.pool) n count s₁) others-are ∙ ap (λ (k : ℕ). cs₀ ++ alts_in L (20 * l.pool) k count s₁) (sym G.count) in
         subst (λ (cs : List m.Held). AllSearched L r.made cs s₂) (sym q) (searched-more L st.made r.made (cs₀ ++ as₀) s₁ s₂ X.more.0 W.only.graph W.only.marks W.only.links (split-searched count w))
 
-    pub after-end : (f g : ℕ) → SearchedIn l n (after_end (after_turn l.pool st) f g) s₁
-    after-end f g = subst (λ (cs : List m.Held). AllSearched L st.made cs s₁) (sym others-are) rest-searched
+    pub after-end : SearchedIn l n (after_turn l.pool st) s₁
+    after-end = subst (λ (cs : List m.Held). AllSearched L st.made cs s₁) (sym others-are) rest-searched
 
     pub after-value : (w : ℕ) (s₂ : List ℕ) → Kept L s₁ s₂ → SearchedIn l n (after_value (after_turn l.pool st) w) s₂
     after-value w s₂ K =

@@ -6,6 +6,7 @@ use native.Mathlib.Omega.{arith}
 use mathlib.Core.Path.{◌≡◌, refl, ap, sym, ◌∙◌, subst}
 use mathlib.Core.List.{List, ◌∷◌}
 use lib.ListN.{get_or, take}
+use Rattle.std.specs.Prelude.{Result}
 use Rattle.heap.specs.Build.{up_from}
 use Rattle.engine.specs.Compile.{compile}
 use Rattle.engine.specs.Machine as m
@@ -20,7 +21,7 @@ use Rattle.pool.specs.declared.Held.{Held}
 use Rattle.pool.specs.Ring.{chain, stack_of, roots_at, held_in, row_of, place_of, pool_of, RowGot}
 use Rattle.pool.proofs.Rings.{front-is, pool-kept}
 use Rattle.run.specs.declared.State.{State}
-use Rattle.run.specs.declared.Stepped.{Stepped}
+use Rattle.run.specs.declared.Answer.{Answer}
 use Rattle.run.specs.Between.{counts_in, moment_of, Bounded, AllSearched, SearchedIn, Runs, StepTaken}
 use Rattle.run.proofs.Fronts.{rest, moment-front}
 use Rattle.run.proofs.Nexts.{moment-is}
@@ -103,7 +104,7 @@ module _ (l : e.Limits) (n : ℕ) (code : List ℕ) (st : State) (s results : Li
   }
 
   -- so a step from there is a step from before
-  taken₁ : (s₂ results₂ : List ℕ) (r : Stepped) → StepTaken l n code st s₁ s₂ results results₂ r → StepTaken l n code st s s₂ results results₂ r
+  taken₁ : (s₂ results₂ : List ℕ) (r : Result State Answer) → StepTaken l n code st s₁ s₂ results results₂ r → StepTaken l n code st s s₂ results results₂ r
   taken₁ s₂ results₂ r T = record { next = λ R. T.next (runs₁ R); tables = λ R. T.tables (runs₁ R); searched = T.searched; clean = T.clean; bounded = T.bounded; untaken = λ a p R. T.untaken a p (runs₁ R); before = T.before; behind = T.behind }
 
 -- What is known where the front is about to take its turn: the state is in bounds, runs, and has its front; and a step from there is a step from before.
@@ -113,7 +114,7 @@ pub record Readied (l : e.Limits) (n : ℕ) (code : List ℕ) (st : State) (s re
   pub got : RowGot l.nodes n st.head s₁ held
   pub under : st.turns < l.budget
   pub runs : Runs l n code st s₁ results
-  pub back : (s₂ results₂ : List ℕ) (r : Stepped) → StepTaken l n code st s₁ s₂ results results₂ r → StepTaken l n code st s s₂ results results₂ r
+  pub back : (s₂ results₂ : List ℕ) (r : Result State Answer) → StepTaken l n code st s₁ s₂ results results₂ r → StepTaken l n code st s s₂ results results₂ r
 
 pub readied : (l : e.Limits) (n : ℕ) (code : List ℕ) (st : State) (s results : List ℕ) (held : Held) (s₁ : List ℕ) → Bounded l n st s results → 1 ≤ st.waiting → RowGot l.nodes n st.head s held → Shortened l.nodes held.top s s₁ → st.turns < l.budget → Runs l n code st s results → Readied l n code st s results held s₁
 readied l n code st s results held s₁ b some G D under R = record {

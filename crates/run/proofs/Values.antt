@@ -12,6 +12,7 @@ use lib.ListN.{length, get_or, take, drop, length-append}
 use lib.Dec.{leb, ltb}
 use lib.Seq.{length-take-le, take_at}
 use borrow.Author.Tests.{le-ltb}
+use Rattle.std.specs.Prelude.{Result, Ok, Err}
 use Rattle.book.specs.Answers.{counts}
 use Rattle.heap.specs.Graph.{Graph, write_each}
 use Rattle.heap.specs.Build.{up_from}
@@ -26,16 +27,16 @@ use Rattle.standing.proofs.Moments.{step-stands}
 use Rattle.standing.proofs.Walks.{stands-part}
 use Rattle.store.specs.Regions.{graph_of, links_of, rest_of, store_of}
 use Rattle.pool.specs.declared.Held.{Held}
-use Rattle.pool.specs.Ring.{place_of, held_in, roots_of, pool_of, row_of, RowGot}
+use Rattle.store.specs.Roots.{roots_of}
+use Rattle.pool.specs.Ring.{place_of, held_in, pool_of, row_of, RowGot}
 use Rattle.pool.proofs.Rings.{pool-first, pool-kept, place_inside}
 use Rattle.writer.specs.Walk.{Reads}
 use Rattle.turns.specs.declared.What.TheVariants.{Wrote}
 use Rattle.turns.specs.declared.Turned as t
 use Rattle.turns.specs.Front.{TurnTaken, took_of}
 use Rattle.run.specs.declared.State.{State}
+use Rattle.run.specs.declared.Answer.{Answer}
 use Rattle.run.specs.declared.Answer.TheVariants.{Emptied, Spent, NoRoom}
-use Rattle.run.specs.declared.Stepped.{Stepped}
-use Rattle.run.specs.declared.Stepped.TheVariants.{Ended, On}
 use Rattle.run.specs.Given.{answer_is}
 use Rattle.run.specs.Between.{counts_in, moment_of, next_of, Bounded, Runs}
 use Rattle.run.specs.Arms.{after_turn, after_value, Valued, value_by}
@@ -47,13 +48,13 @@ module _ (l : e.Limits) (n : ℕ) (code : List ℕ) (st : State) (s results : Li
   before : (z : StoreNext) → store_step (compile R.book) l (moment_of l n st s results) ≡ z → StandsNext R.book R.fine l (e.step (m.turn (compile R.book)) l R.moment) z
   before z p = subst (StandsNext R.book R.fine l (e.step (m.turn (compile R.book)) l R.moment)) p (step-stands R.book R.fine l R.moment (moment_of l n st s results) R.stands)
 
-  pub empty-next : st.waiting ≡ 0 → StandsNext R.book R.fine l (e.step (m.turn (compile R.book)) l R.moment) (next_of l n s₂ results₂ (Ended Emptied))
+  pub empty-next : st.waiting ≡ 0 → StandsNext R.book R.fine l (e.step (m.turn (compile R.book)) l R.moment) (next_of l n s₂ results₂ (Err Emptied))
   unfolding next_of answer_is moment_of pool_of up_from store_step
   empty-next w =
       let q : moment_of l n st s results ≡ store_moment (store_of l.nodes st.made s) [] (counts_in st) (take st.written results) = moment-is refl (ap (λ (k : ℕ). pool_of l.nodes l.pool n st.head k s) w) refl refl in
       before (store_ends e.emptied) (ap (store_step (compile R.book) l) q)
 
-  pub spent-next : 1 ≤ st.waiting → l.budget ≤ st.turns → StandsNext R.book R.fine l (e.step (m.turn (compile R.book)) l R.moment) (next_of l n s₂ results₂ (Ended Spent))
+  pub spent-next : 1 ≤ st.waiting → l.budget ≤ st.turns → StandsNext R.book R.fine l (e.step (m.turn (compile R.book)) l R.moment) (next_of l n s₂ results₂ (Err Spent))
   unfolding next_of answer_is moment_of store_step
   spent-next w u =
       let h = b.head in let v = b.waiting in
@@ -76,7 +77,7 @@ module _ (l : e.Limits) (n : ℕ) (code : List ℕ) (st : State) (s results : Li
     (under : st.turns < l.budget) (s₁ : List ℕ) (r : t.Turned) (X : TurnTaken l.nodes (20 * l.pool) code st.made held s s₁ r) (R : Runs l n code st s results)
     (nine : length held.roots.at ≡ 9) (w : r.what ≡ Wrote) where
   handles-are : (held_in l.nodes s held).value ∷ (held_in l.nodes s held).askers ≡ roots_of held.roots
-  unfolding held_in roots_of
+  unfolding held_in
   handles-are =
       let a = b.handles in let c = G.count in
       let f : length (take held.roots.n held.roots.at) ≡ held.roots.n = length-take-le held.roots.n held.roots.at (omega arith) in
@@ -113,7 +114,7 @@ module _ (l : e.Limits) (n : ℕ) (code : List ℕ) (st : State) (s results : Li
   long-is : length (out₁ ++ record₁) ≡ st.written + length record₁
   long-is = length-append out₁ record₁ ∙ ap (λ (k : ℕ). k + length record₁) written_is
 
-  pub value-next : (s₂ results₂ : List ℕ) (g : Stepped) → Valued l (after_turn l.pool st) terms₁ s₁ s₂ results results₂ g → StandsNext R.book R.fine l (e.step (m.turn (compile R.book)) l R.moment) (next_of l n s₂ results₂ g)
+  pub value-next : (s₂ results₂ : List ℕ) (g : Result State Answer) → Valued l (after_turn l.pool st) terms₁ s₁ s₂ results results₂ g → StandsNext R.book R.fine l (e.step (m.turn (compile R.book)) l R.moment) (next_of l n s₂ results₂ g)
   unfolding took_of next_of moment_of store_taken value_by answer_is
   value-next s₂ results₂ g W = go (leb (st.written + length record₁) l.results) refl
     where
@@ -131,12 +132,12 @@ module _ (l : e.Limits) (n : ℕ) (code : List ℕ) (st : State) (s results : Li
 
       go : (a : Bool) → leb (st.written + length record₁) l.results ≡ a → StandsNext R.book R.fine l (e.step (m.turn (compile R.book)) l R.moment) (next_of l n s₂ results₂ g)
       go false a =
-          let f : g ≡ Ended NoRoom = W.is ∙ rw a in
+          let f : g ≡ Err NoRoom = W.is ∙ rw a in
           let d : leb (length (out₁ ++ record₁)) l.results ≡ false = rw long-is a in
           let v : store_taken l μ₁ cs₁ (counts_in st) out₁ (wrote terms₀) ≡ store_ends e.no_room = rw (record_is, d, store_taken) in
           stood l n code st s results b some held G under s₁ r X R (next_of l n s₂ results₂ g) (y ∙ v ∙ ap (next_of l n s₂ results₂) (sym f))
       go true a =
-          let f : g ≡ On (after_value (after_turn l.pool st) (st.written + length record₁)) = W.is ∙ rw a in
+          let f : g ≡ Ok (after_value (after_turn l.pool st) (st.written + length record₁)) = W.is ∙ rw a in
           let d : leb (length (out₁ ++ record₁)) l.results ≡ true = rw long-is a in
           let v : store_taken l μ₁ cs₁ (counts_in st) out₁ (wrote terms₀) ≡ store_next (store_moment μ₁ cs₁ (counts_in st ⊕ counts 1 0 0 0 1 0 0) (out₁ ++ record₁)) = rw (record_is, d, store_taken) (ap (λ (x : List ℕ). store_next (store_moment μ₁ cs₁ (counts_in st ⊕ counts 1 0 0 0 1 0 0) (out₁ ++ x))) record_is) in
           let h = b.head in let i = b.waiting in let j = b.handles in

@@ -3,7 +3,7 @@
 -- run from a state gives.
 -- Not here: the moments and their steps (engine, Run; standing, Shared), and when they stand for one another (standing, Moments).
 -- Assumes nothing.
-use Rattle.std.specs.Prelude.{ℕ, suc, ◌+◌, ◌*◌, ◌≤◌, ◌<◌, ◌≡◌, ◌≢◌, length, take, drop}
+use Rattle.std.specs.Prelude.{ℕ, suc, ◌+◌, ◌*◌, ◌≤◌, ◌<◌, ◌≡◌, ◌≢◌, length, take, drop, Result, Ok, Err}
 use mathlib.Core.List.{List, [], ◌∷◌, Memᴰ}
 use Rattle.book.specs.Syntax.{Book}
 use Rattle.book.specs.Accepted as A
@@ -21,8 +21,6 @@ use Rattle.machine.specs.Tables.{Has}
 use Rattle.pool.specs.Ring.{pool_of}
 use Rattle.run.specs.declared.Answer.{Answer}
 use Rattle.run.specs.declared.State.{State}
-use Rattle.run.specs.declared.Stepped.{Stepped}
-use Rattle.run.specs.declared.Stepped.TheVariants.{Ended, On}
 use Rattle.run.specs.declared.Done.{Done}
 use Rattle.run.specs.Given.{answer_is}
 
@@ -36,9 +34,9 @@ unfoldable pub moment_of : e.Limits → ℕ → State → List ℕ → List ℕ 
 moment_of l n st s results = store_moment (store_of l.nodes st.made s) (pool_of l.nodes l.pool n st.head st.waiting s) (counts_in st) (take st.written results)
 
 -- what comes of a step: the run ends with an answer, or the next moment
-unfoldable pub next_of : e.Limits → ℕ → List ℕ → List ℕ → Stepped → StoreNext
-next_of l n s results (Ended a) = store_ends (answer_is a)
-next_of l n s results (On st) = store_next (moment_of l n st s results)
+unfoldable pub next_of : e.Limits → ℕ → List ℕ → List ℕ → Result State Answer → StoreNext
+next_of l n s results (Err a) = store_ends (answer_is a)
+next_of l n s results (Ok st) = store_next (moment_of l n st s results)
 
 -- limits in range, room in the memories, and the state's numbers in their bounds
 pub record Bounded (l : e.Limits) (n : ℕ) (st : State) (s results : List ℕ) : Type 0 where
@@ -103,20 +101,20 @@ pub record Untaken (book : Book) (fine : FineBook book) (l : e.Limits) (x : e.Mo
   pub beside : StandsFor book fine l (bare x) (store_bare y)
 
 -- how many bytes of results there are after a step
-unfoldable pub written_by : State → Stepped → ℕ
-written_by st (Ended a) = st.written
-written_by st (On st') = st'.written
+unfoldable pub written_by : State → Result State Answer → ℕ
+written_by st (Err a) = st.written
+written_by st (Ok st') = st'.written
 
 -- One step. For every accepted book and every moment of its definition's run that the state stands for: the step ends the run with the definition's answer, or gives a
 -- state that stands for the definition's next moment, node numbers and forwards aside, each computation's stack included. If the step ends the run, the state with the memory as it is
 -- then stands for its moment still (Untaken). Results written before stand, and bytes beyond those written are as lent.
-pub record StepTaken (l : e.Limits) (n : ℕ) (code : List ℕ) (st : State) (s s' results results' : List ℕ) (r : Stepped) : Type 0 where
+pub record StepTaken (l : e.Limits) (n : ℕ) (code : List ℕ) (st : State) (s s' results results' : List ℕ) (r : Result State Answer) : Type 0 where
   pub next : (R : Runs l n code st s results) → StandsNext R.book R.fine l (e.step (m.turn (compile R.book)) l R.moment) (next_of l n s' results' r)
   pub tables : (R : Runs l n code st s results) → Has (compile R.book) (20 * l.pool) (rest_of l.nodes s')
-  pub searched : (st' : State) → r ≡ On st' → SearchedIn l n st' s'
+  pub searched : (st' : State) → r ≡ Ok st' → SearchedIn l n st' s'
   pub clean : Clean l.nodes s'
-  pub bounded : (st' : State) → r ≡ On st' → Bounded l n st' s' results' × (st'.turns ≡ suc st.turns) × (st.written ≤ st'.written)
-  pub untaken : (a : Answer) → r ≡ Ended a → (R : Runs l n code st s results) → Untaken R.book R.fine l R.moment (moment_of l n st s' results')
+  pub bounded : (st' : State) → r ≡ Ok st' → Bounded l n st' s' results' × (st'.turns ≡ suc st.turns) × (st.written ≤ st'.written)
+  pub untaken : (a : Answer) → r ≡ Err a → (R : Runs l n code st s results) → Untaken R.book R.fine l R.moment (moment_of l n st s' results')
   pub before : take st.written results' ≡ take st.written results
   pub behind : drop (written_by st r) results' ≡ drop (written_by st r) results
 

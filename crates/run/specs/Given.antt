@@ -26,8 +26,8 @@ answer_is NoNodes = e.no_nodes
 answer_is NoPlaces = e.no_places
 answer_is NoRoom = e.no_room
 answer_is BadLimits = e.bad_limits
-answer_is (BadBook w p) = e.bad_book w p
-answer_is (BadQuestion w p) = e.bad_question w p
+answer_is (BadBook f) = e.bad_book f.sort f.at
+answer_is (BadQuestion f) = e.bad_question f.sort f.at
 answer_is LongCode = e.long_code
 
 -- the seven counts

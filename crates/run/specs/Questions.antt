@@ -11,7 +11,6 @@ use Rattle.engine.specs.Machine as m
 use Rattle.engine.specs.Run as e
 use Rattle.agreement.proofs.Calls.{FineBook}
 use Rattle.machine.specs.Tables.{Has}
-use Rattle.run.specs.declared.State.{State}
 use Rattle.run.specs.declared.Done.{Done}
 use Rattle.run.specs.Given.{answer_is}
 use Rattle.run.specs.Between.{counts_in}
@@ -24,10 +23,6 @@ pub record Roomy (l : e.Limits) (s results : List ℕ) : Type 0 where
   pub most : l.results ≤ 65536
   pub room : AllRoom l.nodes l.pool s
   pub lent : l.results ≤ length results
-
--- as many computations wait as are begun, with so many nodes made, and nothing else has come yet
-abbrev pub opening_state : ℕ → ℕ → State
-opening_state waiting made = record { head = 0; waiting = waiting; made = made; turns = 0; begun = waiting; split = 0; values = 0; failed = 0; misfits = 0; written = 0 }
 
 -- an accepted book, its code and its tables, and an accepted question of it
 pub record Asks (l : e.Limits) (code s q : List ℕ) : Type 0 where

@@ -2,7 +2,7 @@
 -- Here, in order: the tables ended at a book's counts; room; a book that is set up; code that is too long; the answer.
 -- Not here: the tables' words (machine, Tables), how they are filled (compiler, Tables).
 -- Assumes nothing.
-use Rattle.std.specs.Prelude.{ℕ, ◌*◌, ◌≤◌, ◌<◌, ◌≡◌, List, ◌++◌, length, drop}
+use Rattle.std.specs.Prelude.{ℕ, ◌*◌, ◌≤◌, ◌<◌, ◌≡◌, List, ◌++◌, length, drop, Result, Ok, Err}
 use Rattle.mem.specs.Words.{words}
 use Rattle.book.specs.Syntax.{Book, con_arities}
 use Rattle.book.specs.Record.{got, fault}
@@ -11,8 +11,8 @@ use Rattle.store.specs.Regions.{AllRoom, rest_of}
 use Rattle.engine.specs.Compile.{compile}
 use Rattle.engine.specs.Run as e
 use Rattle.machine.specs.Tables.{Has}
-use Rattle.compiler.specs.declared.Compiled.{Compiled}
-use Rattle.compiler.specs.declared.Compiled.TheVariants.{Fits, TooLong, Fault}
+use Rattle.compiler.specs.declared.Refused.{Refused}
+use Rattle.compiler.specs.declared.Refused.TheVariants.{TooLong, Fault}
 use Rattle.run.specs.Filled.{Ended}
 
 -- the tables end at the counts of the book that the bytes are
@@ -49,7 +49,7 @@ pub record OverRoom (b : List ℕ) (l : e.Limits) (work work' code code' : List 
   pub code_stays : code' ≡ code
 
 -- what setting up answers
-unfoldable pub SettingIs : List ℕ → e.Limits → List ℕ → List ℕ → List ℕ → List ℕ → Compiled → Type 0
-SettingIs b l work work' code code' (Fits n) = SetUp b l work work' code code' n
-SettingIs b l work work' code code' (TooLong n) = OverRoom b l work work' code code' n
-SettingIs b l work work' code code' (Fault w p) = read_book b ≡ fault w p
+unfoldable pub SettingIs : List ℕ → e.Limits → List ℕ → List ℕ → List ℕ → List ℕ → Result ℕ Refused → Type 0
+SettingIs b l work work' code code' (Ok n) = SetUp b l work work' code code' n
+SettingIs b l work work' code code' (Err (TooLong n)) = OverRoom b l work work' code code' n
+SettingIs b l work work' code code' (Err (Fault f)) = read_book b ≡ fault f.sort f.at

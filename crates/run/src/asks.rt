@@ -2,29 +2,12 @@
 ghost use Rattle.std.specs.Prelude.{◌≡◌, ◌≤◌, length};
 ghost use Rattle.machine.specs.Tables.{code_bound};
 ghost use Rattle.run.specs.Given.{limits_of};
-ghost use Rattle.run.specs.Questions.{Roomy, Asks, AskDone, opening_state};
+ghost use Rattle.run.specs.Questions.{Roomy, Asks, AskDone};
 
 use crate::loops::run_from;
 use crate::{Answer, Done, Limits, State};
 use pool::Held;
-
-// The state at which the question's computation waits alone; or, with no node made, the one of a question whose nodes do not fit.
-fn opening(waiting: usize, made: usize) -> State
-    ensures { result ≡ opening_state waiting made }
-{
-    State {
-        head: 0,
-        waiting: waiting,
-        made: made,
-        turns: 0,
-        begun: waiting,
-        split: 0,
-        values: 0,
-        failed: 0,
-        misfits: 0,
-        written: 0,
-    }
-}
+use store::Store;
 
 // A question asked.
 pub fn ask(work: &mut [u8], code: &[u8], results: &mut [u8], l: Limits, question: &[u8]) -> Done
@@ -33,19 +16,25 @@ pub fn ask(work: &mut [u8], code: &[u8], results: &mut [u8], l: Limits, question
     requires asks { Asks (limits_of l) code.now work.old question.now }
     ensures { AskDone (limits_of l) code.now work.old question.now results.old results.new result }
 {
-    rounds::clear(work, l.nodes);
-    let b = asking::build_question(work, l.nodes, 20 * l.pool, question);
-    if !b.fits {
-        let none = opening(0, 0);
+    let mut store = Store {
+        bytes: work,
+        limit: l.nodes,
+    };
+    rounds::clear(&mut store);
+    let Some(built) = asking::build_question(&mut store, 20 * l.pool, question) else {
         return Done {
             answer: Answer::NoNodes,
-            state: none,
+            state: State::default(),
         };
-    }
-    let roots = b.roots;
+    };
+    let roots = built.roots;
     let n = roots.n;
-    let made = b.made;
-    pool::push(work, l.nodes, l.pool, n, 0, 0, Held { roots, top: 0 });
-    let st = opening(1, made);
+    pool::push(&mut store, l.pool, n, 0, 0, Held { roots, top: 0 });
+    let st = State {
+        waiting: 1,
+        made: built.made,
+        begun: 1,
+        ..State::default()
+    };
     run_from(work, code, results, l, n, st)
 }

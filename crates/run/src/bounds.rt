@@ -7,34 +7,21 @@ ghost use Rattle.run.specs.Given.{limits_of, lent_of};
 use crate::Limits;
 
 // The limits are in range.
+#[tactic(auto, unfolding(engine::specs::Run::in_range))]
 fn in_range(l: Limits) -> bool
     ensures { result ≡ in_range (limits_of l) }
 {
-    if l.nodes < 1 {
-        return false;
-    }
-    if 16384 < l.nodes {
-        return false;
-    }
-    if l.pool < 1 {
-        return false;
-    }
-    if 1024 < l.pool {
-        return false;
-    }
-    if 1000000 < l.budget {
-        return false;
-    }
-    if 65536 < l.results {
-        return false;
-    }
-    if 262144 < l.code {
-        return false;
-    }
-    true
+    1 <= l.nodes
+        && l.nodes <= 16384
+        && 1 <= l.pool
+        && l.pool <= 1024
+        && l.budget <= 1000000
+        && l.results <= 65536
+        && l.code <= 262144
 }
 
 // The work memory asked, in bytes.
+#[tactic(auto, unfolding(engine::specs::Run::work_size))]
 pub fn work_size(l: Limits) -> usize
     requires { (l.nodes ≤ 16384) × (l.pool ≤ 1024) }
     ensures { result ≡ work_size (limits_of l) }
@@ -43,28 +30,18 @@ pub fn work_size(l: Limits) -> usize
 }
 
 // Each lent memory is as long as is asked.
+#[tactic(auto, unfolding(engine::specs::Run::lent_fits))]
 fn long_enough(l: Limits, work: usize, code: usize, results: usize) -> bool
     requires { (l.nodes ≤ 16384) × (l.pool ≤ 1024) }
     ensures { result ≡ lent_fits (limits_of l) (lent_of work code results) }
 {
-    if work < work_size(l) {
-        return false;
-    }
-    if code < l.code {
-        return false;
-    }
-    if results < l.results {
-        return false;
-    }
-    true
+    work_size(l) <= work && l.code <= code && l.results <= results
 }
 
 // The limits are in range, and each lent memory is as long as is asked.
+#[tactic(auto, unfolding(engine::specs::Run::in_range))]
 pub fn fit(l: Limits, work: usize, code: usize, results: usize) -> bool
     ensures { result ≡ (in_range (limits_of l) && lent_fits (limits_of l) (lent_of work code results)) }
 {
-    if in_range(l) {
-        return long_enough(l, work, code, results);
-    }
-    false
+    in_range(l) && long_enough(l, work, code, results)
 }

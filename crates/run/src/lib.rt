@@ -3,7 +3,7 @@
 // specs/Given has the contract.
 #![tactic(auto)]
 
-use book::Sort;
+use book::Fault;
 
 mod asks;
 mod bounds;
@@ -26,7 +26,7 @@ pub struct Limits {
 }
 
 // The pool is empty; the budget is used; the node limit, the pool limit, the results room would be passed; limits or lent memory refused; the book, the question
-// refused, with the fault's sort and place; the code too long.
+// refused, with its first fault; the code too long.
 #[derive(Clone, Copy)]
 pub enum Answer {
     Emptied,
@@ -35,8 +35,8 @@ pub enum Answer {
     NoPlaces,
     NoRoom,
     BadLimits,
-    BadBook(Sort, usize),
-    BadQuestion(Sort, usize),
+    BadBook(Fault),
+    BadQuestion(Fault),
     LongCode,
 }
 
@@ -55,7 +55,7 @@ pub struct Outcome {
 }
 
 // A run between its turns: the front's place and how many wait, the nodes made, the other counts, and how many bytes of results are written.
-#[derive(Clone, Copy)]
+#[derive(Clone, Copy, Default)]
 pub struct State {
     pub head: usize,
     pub waiting: usize,
@@ -67,13 +67,6 @@ pub struct State {
     pub failed: usize,
     pub misfits: usize,
     pub written: usize,
-}
-
-// What comes of a step: the run ends with an answer, or goes on.
-#[derive(Clone, Copy)]
-pub enum Stepped {
-    Ended(Answer),
-    On(State),
 }
 
 // The answer, and the state at which it is given.

@@ -5,7 +5,7 @@ ghost use Rattle.run.specs.Given.{limits_of};
 ghost use Rattle.run.specs.Between.{Bounded, Runs, RunDone};
 
 use crate::steps::step;
-use crate::{Answer, Done, Limits, State, Stepped};
+use crate::{Answer, Done, Limits, State};
 
 // Steps until one ends the run; the budget bounds how many there are.
 pub fn run_from(
@@ -22,21 +22,11 @@ pub fn run_from(
     ensures { RunDone (limits_of l) n code.now st work.old results.old results.new result }
 {
     let mut at = st;
-    let mut left = l.budget + 1;
-    while left > 0 {
-        let r = step(work, code, results, l, n, at);
-        match r {
-            Stepped::Ended(a) => {
-                return Done {
-                    answer: a,
-                    state: at,
-                };
-            }
-            Stepped::On(next) => {
-                at = next;
-            }
+    for _ in 0..l.budget + 1 {
+        match step(work, code, results, l, n, at) {
+            Ok(next) => at = next,
+            Err(answer) => return Done { answer, state: at },
         }
-        left -= 1;
     }
     Done {
         answer: Answer::Spent,

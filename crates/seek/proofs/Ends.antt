@@ -1,10 +1,9 @@
 -- The search at the bytes: a turn of the walk, its start, and what it leaves.
--- Here, in order: a turn of the loop; a constructor stands for itself; where the walk starts; the search that finds nothing or a call at once; the root keeps the path's top.
+-- Here, in order: a turn of the loop; a constructor stands for itself; nothing found or a call at once; where the walk starts; after the walk.
 -- Assumes nothing.
 use Prim.Native.Nat.{ℕ, suc, ◌+◌, ◌-◌, ◌*◌, ◌≤◌, ◌<◌}
 use native.Mathlib.Omega.{arith}
 use native.Mathlib.Numerals.{add-one}
-use native.Mathlib.Nat.{mul-le-mul}
 use mathlib.Core.Path.{◌≡◌, refl, sym, ap, ◌∙◌, subst}
 use mathlib.Core.Logic.{◌⊎◌, inl, inr, ⊎_elim, ◌≢◌}
 use mathlib.Core.Option.{none, some}
@@ -20,13 +19,10 @@ use Rattle.store.specs.declared.NodeNo.{NodeNo}
 use Rattle.store.specs.Regions.{graph_of, marks_of, links_of, Memory}
 use Rattle.store.proofs.Laws.{length-graph}
 use Rattle.store.proofs.Writes.{length-marks, length-links}
-use Rattle.seek.specs.Walkable.{Walkable}
 use Rattle.seek.specs.Path.{To, Shut, Closed, Open, Trail, lowest, Place}
-use Rattle.seek.specs.Search.{IsQuiet, IsCell, IsCall, Up, Down, Hits, Finished, Came, Leaves, Walks, Reached, Went, TopAt, Held, Resumable, Sought}
-use Rattle.seek.specs.declared.Turn.{Turn}
-use Rattle.seek.specs.declared.Turn.TheVariants.{On, Hit, Over}
-use Rattle.seek.specs.declared.Find.TheVariants.{At, Nothing}
-use Rattle.seek.specs.declared.Walked.{Walked}
+use Rattle.seek.specs.Search.{IsQuiet, IsCell, IsCall, Up, Down, Leaves, Walks, Reached, Went, TopAt, Held, Resumable, Sought}
+use Rattle.seek.specs.declared.Stopped.{Stopped}
+use Rattle.std.specs.Prelude.{Option, Some, None}
 use Rattle.seek.proofs.Finds.{find-fun}
 use Rattle.seek.proofs.Ranks.{height}
 use Rattle.seek.proofs.Shuts.{to_made, quiet-shut, shut_none, shut-more, word_at}
@@ -35,27 +31,13 @@ use Rattle.seek.proofs.Steps.{Going, going-up, going-down}
 
 -- a turn of the loop
 module _ {L r b t₀ : ℕ} {s₀ : List ℕ} (W : Walks L r b t₀ s₀) {s : List ℕ} {t left : ℕ} (J : Going W s t left) (room : 16 * L ≤ length (words s₀)) where
-  pub came-on : (s' : List ℕ) (x : Turn) → Came L b t s s' x → (n : NodeNo) → x ≡ On n → Going W s' n.0 (left - 1)
-  came-on s' x C n e = go (subst (Came L b t s s') e C)
-    where
-      go : Up L t s s' n.0 ⊎ Down L b t s s' n.0 → Going W s' n.0 (left - 1)
-      go (inl u) = going-up W J u room
-      go (inr d) = going-down W J d.finished room d.above d.linked
+  pub came-on : (s' : List ℕ) (n : NodeNo) → Up L t s s' n.0 ⊎ Down L b t s s' n.0 → Going W s' n.0 (left - 1)
+  came-on s' n (inl u) = going-up W J u room
+  came-on s' n (inr d) = going-down W J d.finished room d.above d.linked
 
-pub came-long : (L b t : ℕ) (s s' : List ℕ) (x : Turn) → Came L b t s s' x → length (words s') ≡ length (words s)
-came-long L b t s s' (On n) C = ⊎_elim (λ u. u.did.long) (λ d. d.finished.did.long) C
-came-long L b t s s' (Hit h) C = C.long
-came-long L b t s s' Over C = C.0.did.long
-
-pub came-hit : (L b t : ℕ) (s s' : List ℕ) (x : Turn) → Came L b t s s' x → (h : NodeNo) → x ≡ Hit h → Hits L t s s' h.0
-came-hit L b t s s' x C h e = subst (Came L b t s s') e C
-
-pub came-over : (L b t : ℕ) (s s' : List ℕ) (x : Turn) → Came L b t s s' x → x ≡ Over → Finished L t s s' × (t ≡ b)
-came-over L b t s s' x C e = subst (Came L b t s s') e C
-
--- the counter fits
-pub product : (L : ℕ) → L ≤ 32768 → L * (L + 1) ≤ 32768 * 32769
-product L h = mul-le-mul {n₁ = L} {m₁ = L + 1} {n₂ = 32768} {m₂ = 32769} h (omega arith)
+pub came-long : {L b t n : ℕ} {s s' : List ℕ} → Up L t s s' n ⊎ Down L b t s s' n → length (words s') ≡ length (words s)
+came-long (inl u) = u.did.long
+came-long (inr d) = d.finished.did.long
 
 -- a constructor stands for itself
 self : {made : ℕ} {g : Graph} {e k : ℕ} → To made g e k → (y : ℕ) (hs : List ℕ) → node g k ≡ cell (con y) hs → k ≡ e
@@ -69,18 +51,8 @@ module _ (L r : ℕ) (s : List ℕ) (G : Resumable L r s) where
   way : To G.made g (follow g r) r
   way = to_made G.ground G.ground.handle
 
-  pub root-walk : Walkable g r
-  root-walk = record { own = G.own; roots = G.roots; part = G.ground.part; handle = G.ground.handle }
-
   pub root_in : r < L
   root_in = let a = G.ground.part.inside r G.ground.handle in let l = length-graph L s in omega arith
-
-  leaves_none : Leaves L G.made G.own s s
-  leaves_none = record { graph = refl; places = refl; rest = refl; long = refl; marks = λ x o. refl; links = λ x o. refl; finished = λ x e. e; closed = G.closed }
-
-  -- nothing is written
-  pub sought-none : Sought L G.made G.own r s s
-  sought-none = record { leaves = leaves_none; resumes = G.resumes }
 
   pub quiet_none : IsQuiet g (marks_of L s) r → none ≡ first_call L g r
   quiet_none q = sym (shut_none G.closed L (quiet-shut G.ground G.ground.handle q))
@@ -121,7 +93,7 @@ module _ (L r : ℕ) (s : List ℕ) (G : Resumable L r s) where
             (lowest (record { name = X.name; con = base-con; unfinished = X.unfinished }) (subst (λ (x : ℕ). To G.made g x r) (sym X.at) way))
 
     -- after the walk
-    module _ (t : ℕ) (T : TopAt L r b s t) (s₁ : List ℕ) (w : Walked) (Y : Went L r b t s s₁ w) where
+    module _ (t : ℕ) (T : TopAt L r b s t) (s₁ : List ℕ) (o : Option Stopped) (Y : Went L r b t s s₁ o) where
       abbrev W : Walks L r b t s
       W = start-walks t T
 
@@ -136,18 +108,18 @@ module _ (L r : ℕ) (s : List ℕ) (G : Resumable L r s) where
       Q = Y.leaves W
 
       -- nothing was found
-      pub sought-nothing : w.find ≡ Nothing → Sought L G.made G.own r s s₁
+      pub sought-nothing : o ≡ None → Sought L G.made G.own r s s₁
       unfolding start-walks
       sought-nothing e = record { leaves = Q; resumes = λ m. inl (record { end = follow g r; leads = way; quiet = inr (subst (λ (x : ℕ). get_or M x 0 ≡ 2) X.at done) }) }
         where
           done : get_or M b 0 ≡ 2
-          done = subst (Reached L G.made r b s s₁ w.top.0) e (Y.reached W)
+          done = subst (Reached L G.made r b s s₁) e (Y.reached W)
 
       -- a call was found
-      module _ (n : NodeNo) (e : w.find ≡ At n) (s₂ : List ℕ) (D : Held L r w.top.0 s₁ s₂) (room : 16 * L ≤ length (words s)) where
+      module _ (w : Stopped) (e : o ≡ Some w) (s₂ : List ℕ) (D : Held L r w.top.0 s₁ s₂) (room : 16 * L ≤ length (words s)) where
         trail₁ : Trail G.made g M K r b w.top.0
         unfolding start-walks
-        trail₁ = subst (Reached L G.made r b s s₁ w.top.0) e (Y.reached W)
+        trail₁ = subst (Reached L G.made r b s s₁) e (Y.reached W)
 
         marks₂ : marks_of L s₂ ≡ set M r 1
         marks₂ = ap (λ (m : Memory). m.marks) D.is

@@ -2,22 +2,21 @@
 -- Here, in order: what a handle leads to; what a node's arguments lead to; a turn; a walk; what a search relies on; what it leaves.
 -- Not here: the words in which it keeps its place (Path), why it finds the first call (proofs).
 -- Assumes nothing.
-use Rattle.std.specs.Prelude.{ℕ, suc, ◌+◌, ◌≤◌, ◌<◌, ◌≡◌, ◌⊎◌, ◌≢◌, length, get_or}
+use Rattle.std.specs.Prelude.{ℕ, suc, ◌+◌, ◌≤◌, ◌<◌, ◌≡◌, ◌⊎◌, ◌≢◌, length, get_or, Option, Some, None}
 use mathlib.Core.List.{List, Memᴰ}
 use Rattle.mem.specs.Words.{words}
 use Rattle.book.specs.Syntax.{con, fun}
 use Rattle.heap.specs.Graph.{Graph, cell, var, node, follow, look, args, first_call}
 use Rattle.store.specs.Regions.{graph_of, marks_of, links_of, places_of, rest_of, Memory, memory, Did, set_mark, set_link}
 use Rattle.standing.specs.Part.{Part, Handle}
+use Rattle.store.specs.declared.NodeNo.{NodeNo}
 use Rattle.seek.specs.Walkable.{Walkable, found_of}
 use Rattle.seek.specs.Path.{Closed, ClosedIn, Trail, Resumes, ResumesIn}
 use Rattle.seek.specs.declared.Ahead.{Ahead}
 use Rattle.seek.specs.declared.Ahead.TheVariants.{Quiet, Cell, Call}
 use Rattle.seek.specs.declared.Turn.{Turn}
 use Rattle.seek.specs.declared.Turn.TheVariants.{On, Hit, Over}
-use Rattle.seek.specs.declared.Find.{Find}
-use Rattle.seek.specs.declared.Find.TheVariants.{At, Nothing}
-use Rattle.seek.specs.declared.Walked.{Walked}
+use Rattle.seek.specs.declared.Stopped.{Stopped}
 
 -- handle k leads to a variable or to a finished node
 pub record IsQuiet (g : Graph) (marks : List ℕ) (k : ℕ) : Type 0 where
@@ -123,16 +122,21 @@ pub record Walks (L r b t : ℕ) (s : List ℕ) : Type 0 where
   pub trail : Trail made (graph_of L s) (marks_of L s) (links_of L s) r b t
 
 -- where it ended: at a call, with the path to it; or the root's node is finished
-abbrev pub Reached : ℕ → ℕ → ℕ → ℕ → List ℕ → List ℕ → ℕ → Find → Type 0
-Reached L made r b s s' t (At n) = Trail made (graph_of L s) (marks_of L s') (links_of L s') r b t
-Reached L made r b s s' t Nothing = get_or (marks_of L s') b 0 ≡ 2
+abbrev pub Reached : ℕ → ℕ → ℕ → ℕ → List ℕ → List ℕ → Option Stopped → Type 0
+Reached L made r b s s' (Some w) = Trail made (graph_of L s) (marks_of L s') (links_of L s') r b w.top.0
+Reached L made r b s s' None = get_or (marks_of L s') b 0 ≡ 2
 
-pub record Went (L r b t : ℕ) (s s' : List ℕ) (w : Walked) : Type 0 where
-  pub found : found_of w.find ≡ first_call L (graph_of L s) r
+-- the call
+unfoldable pub call_of : Option Stopped → Option NodeNo
+call_of (Some w) = Some w.call
+call_of None = None
+
+pub record Went (L r b t : ℕ) (s s' : List ℕ) (o : Option Stopped) : Type 0 where
+  pub found : found_of (call_of o) ≡ first_call L (graph_of L s) r
   pub long : length (words s') ≡ length (words s)
-  pub low : w.top.0 < L
+  pub low : (w : Stopped) → o ≡ Some w → w.top.0 < L
   pub leaves : (W : Walks L r b t s) → Leaves L W.made W.own s s'
-  pub reached : (W : Walks L r b t s) → Reached L W.made r b s s' w.top.0 w.find
+  pub reached : (W : Walks L r b t s) → Reached L W.made r b s s' o
 
 -- where the path's top is: the root's mark says that the link has it, or it is b
 abbrev pub TopAt : ℕ → ℕ → ℕ → List ℕ → ℕ → Type 0

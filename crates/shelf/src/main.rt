@@ -1,22 +1,53 @@
 // A shelf of cases from standard input, a line for each: how a second interpreter is run against ours.
-// Here, in order: a case's line; a case, with the memory lent; all cases.
+// Here, in order: the memories; a case's line; a case, with the memory lent; all cases.
 // Not here: how a case is read and what of it the engine sees (crate cases), how an outcome is printed (crate lines). No contract can say what standard input gives or standard output takes.
 //
 // A case: seven 4-byte little-endian numbers (nodes, pool, budget, results room, code room, book length, question length), the book, the question.
 // Its line: answer, place, the seven counts, then the results in lower-case hex or `-` if there are none. A stream cut inside a case ends with `14 0 0 0 0 0 0 0 0 -`.
 #![tactic(auto)]
 
-ghost use Rattle.std.specs.Prelude.{◌≤◌, ◌<◌, length};
+ghost use Rattle.std.specs.Prelude.{◌≡◌, ◌≤◌, min};
 
-use cases::{Head, Taken};
-use lines::least;
+use cases::{Case, Head};
 use run::{Limits, Outcome};
 use std::io;
 use std::io::{Read, Write};
 
+// What is kept of a case, and what a run is lent of. Of a book one byte more than an accepted one has is kept, and of a question 1,048,576; the others are the largest that
+// limits in range ask.
+#[derive(Drop)]
+struct Memories {
+    book: [u8; 32769],
+    question: [u8; 1048576],
+    work: [u8; 704512],
+    code: [u8; 262144],
+    results: [u8; 65536],
+}
+
+// How many bytes of each memory are lent.
+#[derive(Clone, Copy)]
+struct Lent {
+    work: usize,
+    code: usize,
+    results: usize,
+}
+
+// Of each memory what the limits ask, or all there is.
+fn to_lend(l: Limits) -> Lent
+    ensures work { result.work ≤ 704512 }
+    ensures code { result.code ≡ min l.code 262144 }
+    ensures results { result.results ≡ min l.results 65536 }
+{
+    Lent {
+        work: cases::work_size(l).min(704512),
+        code: l.code.min(262144),
+        results: l.results.min(65536),
+    }
+}
+
 // The results in hex, or `-`.
 fn print_results<W: Write>(out: &mut W, results: &[u8]) -> io::Result<()> {
-    if results.len() == 0 {
+    if results.is_empty() {
         return out.write_all(b"-");
     }
     lines::print_hex(out, results)
@@ -24,7 +55,7 @@ fn print_results<W: Write>(out: &mut W, results: &[u8]) -> io::Result<()> {
 
 // The line of an outcome.
 fn print<W: Write>(out: &mut W, o: Outcome, results: &[u8]) -> io::Result<()> {
-    let n = least(o.written, results.len());
+    let n = o.written.min(results.len());
     lines::print_told(out, o)?;
     out.write_all(b" ")?;
     print_results(out, &results[..n])?;
@@ -41,81 +72,52 @@ fn cut<W: Write>(out: &mut W) -> io::Result<bool> {
 fn answer<R: Read, W: Write>(
     input: &mut R,
     out: &mut W,
-    l: Limits,
-    b: usize,
-    q: usize,
-    book: &mut [u8],
-    question: &mut [u8],
-    work: &mut [u8],
-    code: &mut [u8],
-    results: &mut [u8],
-) -> io::Result<bool>
-    requires { (32769 ≤ length book.old) × (771 ≤ length question.old) × (q < 4294967296) }
-{
-    let w = least(cases::work_size(l), work.len());
-    let c = least(l.code, code.len());
-    let r = least(l.results, results.len());
-    let t = cases::take_case(
+    case: Case,
+    m: &mut Memories,
+) -> io::Result<bool> {
+    let lent = to_lend(case.limits);
+    let work = &mut m.work[..];
+    let code = &mut m.code[..];
+    let results = &mut m.results[..];
+    let taken = cases::take_case(
         input,
-        l,
-        b,
-        q,
-        book,
-        question,
-        &mut work[..w],
-        &mut code[..c],
-        &mut results[..r],
+        case,
+        &mut m.book,
+        &mut m.question,
+        &mut work[..lent.work],
+        &mut code[..lent.code],
+        &mut results[..lent.results],
     )?;
-    match t {
-        Taken::Gave(o) => {
-            print(out, o, results)?;
-            Ok(true)
-        }
-        Taken::Cut => cut(out),
-    }
+    let Some(o) = taken else {
+        return cut(out);
+    };
+    print(out, o, &m.results)?;
+    Ok(true)
 }
 
 // The next case; whether to go on.
-fn next<R: Read, W: Write>(
-    input: &mut R,
-    out: &mut W,
-    book: &mut [u8],
-    question: &mut [u8],
-    work: &mut [u8],
-    code: &mut [u8],
-    results: &mut [u8],
-) -> io::Result<bool>
-    requires { (32769 ≤ length book.old) × (771 ≤ length question.old) }
-{
-    let h = cases::read_head(input)?;
-    match h {
-        Head::Is(l, b, q) => answer(input, out, l, b, q, book, question, work, code, results),
+fn next<R: Read, W: Write>(input: &mut R, out: &mut W, m: &mut Memories) -> io::Result<bool> {
+    match cases::read_head(input)? {
+        Head::Is(case) => answer(input, out, case, m),
         Head::Ended => Ok(false),
         Head::Cut => cut(out),
     }
 }
 
-// All cases: a number of turns that no run uses up, since nothing says that the input ends. The memories are the largest that limits in range ask; of a book one byte more than
-// an accepted one has is kept, and of a question 1,048,576.
+// All cases: a number of turns that no run uses up, since nothing says that the input ends.
 fn main(rt: HostRuntime) -> io::Result<()> {
     let mut input = rt.reader();
     let mut out = io::writer(&rt);
-    let mut book = [0u8; 32769];
-    let mut question = [0u8; 1048576];
-    let mut work = [0u8; 704512];
-    let mut code = [0u8; 262144];
-    let mut results = [0u8; 65536];
+    let mut m = Memories {
+        book: [0; 32769],
+        question: [0; 1048576],
+        work: [0; 704512],
+        code: [0; 262144],
+        results: [0; 65536],
+    };
     for _ in 0..u64::MAX {
-        if !next(
-            &mut input,
-            &mut out,
-            &mut book,
-            &mut question,
-            &mut work,
-            &mut code,
-            &mut results,
-        )? {
-            return Ok(());
+        if !next(&mut input, &mut out, &mut m)? {
+            break;
         }
     }
     Ok(())

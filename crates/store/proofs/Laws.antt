@@ -1,8 +1,8 @@
 -- Laws of reading: a node's words, what is seen of it, its arguments, its forwards, and the words of the other regions.
 -- Assumes nothing.
 use Prim.Native.Nat.{ℕ, zero, suc, ◌+◌, ◌-◌, ◌*◌, ◌/◌, ◌%◌, ◌≤◌, ◌<◌}
-use mathlib.Core.Path.{◌≡◌, refl, ap, sym, ◌∙◌, subst}
-use mathlib.Core.Logic.{⊎_elim}
+use mathlib.Core.Path.{◌≡◌, refl, ap, sym, ◌∙◌}
+use mathlib.Core.Logic.{◌⊎◌, inl, inr}
 use mathlib.Core.List.{List, [], ◌∷◌}
 use lib.ListN.{length, get_or, take, drop, length-take, length-drop, length-map, get_or-map, get_or-eq_default}
 use lib.Seq.{get_or-take, get_or-drop}
@@ -10,15 +10,13 @@ use native.Mathlib.Omega.{arith}
 use native.Mathlib.Nat.{add-zero, add_assoc}
 use native.Mathlib.Numerals.{sub-one}
 use lib.Dec.{lit<}
-use types.Run.{OneOf}
-use denote.Enum.Declared.{tag_of}
 use Rattle.book.specs.Syntax.{con, fun}
 use Rattle.mem.specs.Words.{words, rows}
 use Rattle.mem.proofs.Laws.{row_get, length-rows}
 use Rattle.heap.specs.Graph.{Graph, Node, cell, var, fwd, node, deref, follow, args}
 use Rattle.store.specs.Rows.{of_kind, node_of, seen}
+unfoldable pub use Rattle.store.specs.Rows.{count_of}
 use Rattle.store.specs.Regions.{graph_of, marks_of, links_of, list_of, places_of, frames_of, rest_of}
-use Rattle.store.specs.contracts.Seen as the
 use Rattle.book.specs.declared.ConNo.{ConNo}
 use Rattle.book.specs.declared.FunNo.{FunNo}
 use Rattle.store.specs.declared.NodeNo.{NodeNo}
@@ -53,7 +51,7 @@ length-args : (L i : ℕ) (s : List ℕ) → i < L → 16 * L ≤ length (words 
 length-args L i s h room = simp (length-take, length-drop) (omega arith)
 
 -- what is seen, by the words
-unfoldable pub seen_of : ℕ → ℕ → ℕ → ℕ → Seen
+unfoldable seen_of : ℕ → ℕ → ℕ → ℕ → Seen
 seen_of zero y z t = Var
 seen_of (suc zero) y z t = Con (record { 0 = y }) z
 seen_of (suc (suc zero)) y z t = Call (record { 0 = y }) z
@@ -66,16 +64,36 @@ look-kind (suc zero) y hs t = refl
 look-kind (suc (suc zero)) y hs t = refl
 look-kind (suc (suc (suc k))) y hs t = refl
 
-pub look-words : (L i h : ℕ) (s : List ℕ) → i < L → 16 * L ≤ length (words s) → h ≡ get_or (words s) (10 * i) 0
+look-words : (L i h : ℕ) (s : List ℕ) → i < L → 16 * L ≤ length (words s) → h ≡ get_or (words s) (10 * i) 0
     → seen (node (graph_of L s) i) ≡ seen_of (h / 256) (h % 256) (get_or (words s) (10 * i + 1) 0 % 9) (get_or (words s) (10 * i + 2) 0)
 look-words L i h s lt room e = rw (node-words L i s lt, look-kind, length-args L i s lt room, e)
 
-pub seen-rest : (k y z t : ℕ) → (k ≡ 0 → ⊥) → (k ≡ 1 → ⊥) → (k ≡ 2 → ⊥) → seen_of k y z t ≡ Fwd (record { 0 = t })
+seen-rest : (k y z t : ℕ) → (k ≡ 0 → ⊥) → (k ≡ 1 → ⊥) → (k ≡ 2 → ⊥) → seen_of k y z t ≡ Fwd (record { 0 = t })
 unfolding seen_of
 seen-rest zero y z t a b c = absurd (a refl)
 seen-rest (suc zero) y z t a b c = absurd (b refl)
 seen-rest (suc (suc zero)) y z t a b c = absurd (c refl)
 seen-rest (suc (suc (suc k))) y z t a b c = refl
+
+-- what is seen, by the head word's two bytes and the next two words
+module _ (L i h : ℕ) (bytes s : List ℕ) (lt : i < L) (room : 16 * L ≤ length (words s)) (e : h ≡ get_or (words s) (10 * i) 0) (small : h < 65536) (two : bytes ≡ h % 256 ∷ h / 256 % 256 ∷ []) where
+  by_bytes : seen_of (get_or bytes 1 0) (get_or bytes 0 0) (get_or (words s) (10 * i + 1) 0 % 9) (get_or (words s) (10 * i + 2) 0) ≡ seen (node (graph_of L s) i)
+  by_bytes = let high : h / 256 % 256 ≡ h / 256 = omega arith in rw (two, high) (sym (look-words L i h s lt room e))
+
+  pub look-var : get_or bytes 1 0 ≡ 0 → Var ≡ seen (node (graph_of L s) i)
+  unfolding seen_of
+  look-var q = rw q at by_bytes
+
+  pub look-con : (n w : ℕ) → get_or bytes 1 0 ≡ 1 → w ≡ get_or (words s) (10 * i + 1) 0 → n ≡ w % 9 → Con (record { 0 = get_or bytes 0 0 }) n ≡ seen (node (graph_of L s) i)
+  unfolding seen_of
+  look-con n w q r z = rw (z, r) (rw q at by_bytes)
+
+  pub look-call : (n w : ℕ) → get_or bytes 1 0 ≡ 2 → w ≡ get_or (words s) (10 * i + 1) 0 → n ≡ w % 9 → Call (record { 0 = get_or bytes 0 0 }) n ≡ seen (node (graph_of L s) i)
+  unfolding seen_of
+  look-call n w q r z = rw (z, r) (rw q at by_bytes)
+
+  pub look-fwd : (w : ℕ) → (get_or bytes 1 0 ≡ 0 → ⊥) → (get_or bytes 1 0 ≡ 1 → ⊥) → (get_or bytes 1 0 ≡ 2 → ⊥) → w ≡ get_or (words s) (10 * i + 2) 0 → Fwd (record { 0 = w }) ≡ seen (node (graph_of L s) i)
+  look-fwd w a b c r = rw r (sym (seen-rest _ _ _ _ a b c) ∙ by_bytes)
 
 -- what is seen says what the node is
 pub seen-fwd : (x : Node) (t : NodeNo) → Fwd t ≡ seen x → x ≡ fwd t.0
@@ -112,16 +130,16 @@ unfolding deref
 deref-go zero g h t p e = absurd (omega arith)
 deref-go (suc l) g h t p e = rw (e, deref, sub-one)
 
-stays : (l : ℕ) (g : Graph) (h : ℕ) (x : Node) → node g h ≡ x → OneOf (0 ∷ 1 ∷ 2 ∷ []) (tag_of the.the_type (seen x)) → deref (suc l) g h ≡ h
+stays : (l : ℕ) (g : Graph) (h : ℕ) (x : Node) → node g h ≡ x → ((t : NodeNo) → seen x ≡ Fwd t → ⊥) → deref (suc l) g h ≡ h
 unfolding seen deref
 stays l g h var e o = rw (e, deref)
 stays l g h (cell (con c) hs) e o = rw (e, deref)
 stays l g h (cell (fun f) hs) e o = rw (e, deref)
-stays l g h (fwd t) e o = absurd (⊎_elim (λ e. omega arith) (λ o'. ⊎_elim (λ e. omega arith) (λ e. omega arith) o') o)
+stays l g h (fwd t) e o = absurd (o _ refl)
 
-pub deref-stop : (left : ℕ) (g : Graph) (h : ℕ) (k : Seen) → 0 < left → k ≡ seen (node g h) → OneOf (0 ∷ 1 ∷ 2 ∷ []) (tag_of the.the_type k) → deref left g h ≡ h
+pub deref-stop : (left : ℕ) (g : Graph) (h : ℕ) (k : Seen) → 0 < left → k ≡ seen (node g h) → ((t : NodeNo) → k ≡ Fwd t → ⊥) → deref left g h ≡ h
 deref-stop zero g h k p e o = absurd (omega arith)
-deref-stop (suc l) g h k p e o = stays l g h (node g h) refl (subst (λ (k' : Seen). OneOf (0 ∷ 1 ∷ 2 ∷ []) (tag_of the.the_type k')) e o)
+deref-stop (suc l) g h k p e o = stays l g h (node g h) refl (λ t q. o t (e ∙ q))
 
 pub deref-end : (left : ℕ) (g : Graph) (h : ℕ) → left ≤ 0 → deref left g h ≡ h
 unfolding deref
@@ -153,19 +171,29 @@ arg-word L i j s h room jh =
     let lt : j < get_or (words s) (10 * i + 1) 0 % 9 = rw (length-args L i s h room) at k.1 in
     (sym (rw (e, k.0, get_or-take {A = ℕ} (get_or (words s) (10 * i + 1) 0 % 9) (drop 2 (row i s)) j 0 lt, get_or-drop, row_word i (2 + j) s (omega arith), ← add_assoc)), omega arith)
 
--- how many arguments what is seen has
-unfoldable pub count_of : Seen → ℕ
-count_of Var = 0
-count_of (Con c k) = k
-count_of (Call f k) = k
-count_of (Fwd t) = 0
-
+-- how many arguments what is seen has: those of the node
 pub count-seen : (x : Node) → count_of (seen x) ≡ length (args x)
 unfolding count_of seen args
 count-seen var = refl
 count-seen (cell (con c) hs) = refl
 count-seen (cell (fun f) hs) = refl
 count-seen (fwd t) = refl
+
+-- by what was looked at
+pub count-looked : (x : Node) (k : Seen) (n : ℕ) → k ≡ seen x → n ≡ count_of k → n ≡ length (args x)
+count-looked x k n e q = q ∙ ap count_of e ∙ count-seen x
+
+pub count-cell : (k : Seen) (n : ℕ) → ((c : ConNo) × (k ≡ Con c n)) ⊎ ((f : FunNo) × (k ≡ Call f n)) → n ≡ count_of k
+unfolding count_of
+count-cell k n (inl (c, e)) = rw e
+count-cell k n (inr (f, e)) = rw e
+
+pub count-other : (k : Seen) → ((c : ConNo) (n : ℕ) → k ≡ Con c n → ⊥) → ((f : FunNo) (n : ℕ) → k ≡ Call f n → ⊥) → 0 ≡ count_of k
+unfolding count_of
+count-other Var a b = refl
+count-other (Con c n) a b = absurd (a c n refl)
+count-other (Call f n) a b = absurd (b f n refl)
+count-other (Fwd t) a b = refl
 
 -- a word of a region
 part-word : (l : List ℕ) (n a k : ℕ) → k < n → get_or l (a + k) 0 ≡ get_or (take n (drop a l)) k 0

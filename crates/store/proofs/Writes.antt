@@ -275,10 +275,10 @@ make-none L made x s h = let e : L - made ≡ 0 = omega arith in rw e
 head-kind : (k y h : ℕ) (hs : List ℕ) (t : ℕ) → h / 256 ≡ k → h % 256 ≡ y → of_kind (h / 256) (h % 256) hs t ≡ of_kind k y hs t
 head-kind k y h hs t e e' = rw (e, e')
 
-pub head-makes : (h : Head) (c : ConNo) → h ≡ Makes c → c.0 < 256 → HeadIs (256 + c.0) (symbol_of h)
+pub head-makes : (h : Head) (c : ConNo) (w : ℕ) → h ≡ Makes c → c.0 < 256 → w ≡ c.0 + 256 → HeadIs w (symbol_of h)
 unfolding symbol_of of_kind
-head-makes h c e lt = rw e (record { is = λ hs t. head-kind 1 c.0 (256 + c.0) hs t (omega arith) (omega arith) })
+head-makes h c w e lt is = rw e (record { is = λ hs t. head-kind 1 c.0 w hs t (omega arith) (omega arith) })
 
-pub head-calls : (h : Head) (f : FunNo) → h ≡ Calls f → f.0 < 256 → HeadIs (512 + f.0) (symbol_of h)
+pub head-calls : (h : Head) (f : FunNo) (w : ℕ) → h ≡ Calls f → f.0 < 256 → w ≡ f.0 + 512 → HeadIs w (symbol_of h)
 unfolding symbol_of of_kind
-head-calls h f e lt = rw e (record { is = λ hs t. head-kind 2 f.0 (512 + f.0) hs t (omega arith) (omega arith) })
+head-calls h f w e lt is = rw e (record { is = λ hs t. head-kind 2 f.0 w hs t (omega arith) (omega arith) })

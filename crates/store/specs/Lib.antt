@@ -1,2 +1,4 @@
 pub mod Regions
 pub mod Rows
+pub mod Roots
+pub mod Whole

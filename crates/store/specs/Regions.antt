@@ -8,7 +8,7 @@
 --   14 L .. 16 L           frames: two words each, a node and its next argument
 --   16 L ..                the rest: 20 words a pool place, then tables and registers
 --
--- A function that writes says `Did L s s' (set_mark n v)`: the memory is what set_mark makes of it, and the length stays.
+-- A method that writes says `Became old new (set_mark n v)` (Whole), and in it `Did L s s' (set_mark n v)`: the memory is what set_mark makes of it, and the length stays.
 -- Callers take a region's equation by its field: `ap (λ m. m.graph) d.is`; several writes one behind the other by `did_then` (proofs/Writes).
 -- Here, in order: room; the regions; the memory and its writes; a stack of frames; the store of the nodes not yet made.
 -- Not here: pool, tables and registers, which lie in the rest.

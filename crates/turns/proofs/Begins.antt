@@ -9,7 +9,7 @@ use mathlib.Core.Logic.{◌⊎◌, inl, inr}
 use mathlib.Core.Bool.{Bool, true, false}
 use mathlib.Core.Option.{some}
 use mathlib.Core.List.{List, [], ◌∷◌, Memᴰ}
-use lib.Dec.{T, ltb}
+use lib.Dec.{ltb}
 use lib.ListN.{length, get_or}
 use lib.Seq.{get_or-set_other, get_or-take}
 use borrow.Author.Tests.{ltb-true, ltb-false}
@@ -33,23 +33,15 @@ use Rattle.seek.specs.Path.{Closed, CallAt}
 use Rattle.seek.specs.Search.{Ground, Resumable, Sought, SoughtFrom}
 use Rattle.seek.proofs.Walkables.{found-calls}
 use Rattle.seek.proofs.Survives.{later_same, resumes-later}
-use Rattle.seek.specs.declared.Find.{Find}
-use Rattle.seek.specs.declared.Find.TheVariants.{At, Nothing}
+use Rattle.std.specs.Prelude.{Option, Some, None}
 use Rattle.pool.specs.declared.Held.{Held}
-use Rattle.pool.specs.Ring as p
 use Rattle.pool.specs.Ring.{Sized, held_in}
 use Rattle.turns.specs.Front.{Standing, told_by, value_in, Searched, Dropped}
-use Rattle.turns.specs.Calls.{Stacked, OwnLinks, OwnMarks}
+use Rattle.turns.specs.Calls.{Stacked, OwnLinks, OwnMarks, Begun}
 use Rattle.turns.proofs.Grounds.{stands-ground, searched-same}
 use Rattle.turns.proofs.Climbing.{stacked-settled, stacked-first, stacked-ours}
 use Rattle.turns.proofs.Links.{stack_same, stack-none, stack_some, stack_push}
 use Rattle.turns.proofs.Driving.{store-graph}
-
-pub true-false : true ≡ false → ⊥
-true-false e = subst T e tt
-
-pub false-true : false ≡ true → ⊥
-false-true e = true-false (sym e)
 
 -- by the settled stack, and by the first call
 on_some : (n : ℕ) (q : Program) (μ : Store) (c : m.Held) (N : List ℕ) (x : ℕ) (M : List ℕ) → m.settle μ.nodes c.stack ≡ N → N ≡ x ∷ M → m.turn_on (λ (μ : Store). μ.nodes) take1 n q μ c ≡ m.stopped (drive_on n q N μ)
@@ -69,7 +61,7 @@ module _ (L made : ℕ) (held : Held) (s : List ℕ) where
 
   -- the value's handle is the first
   pub value-is : Sized held.roots → c.value ≡ get_or held.roots.at 0 0
-  unfolding held_in p.roots_of
+  unfolding held_in
   value-is z = get_or-take {A = ℕ} held.roots.n held.roots.at 0 0 (omega arith)
 
   stack_is : c.stack ≡ stack_of L s held.top
@@ -118,7 +110,7 @@ module _ (L made : ℕ) (held : Held) (s : List ℕ) where
           subst (Stacked S.book S.kept.comp.graph S.kept.comp.value S.stands.world μ μ) (sym x.2) (stacked-settled S.book S.fine S.sound S.stands x.0 x.1 (settled t q ∙ x.2)),
         )
 
-    module _ (z : Sized held.roots) (t : ℕ) (none_left : t ≤ 0) (q : Settled L s held.top t) (f : Find) (fe : found_of f ≡ first_call L (graph_of L s) (value_in held)) where
+    module _ (z : Sized held.roots) (t : ℕ) (none_left : t ≤ 0) (q : Settled L s held.top t) (f : Option NodeNo) (fe : found_of f ≡ first_call L (graph_of L s) (value_in held)) where
       empty : m.settle μ.nodes c.stack ≡ []
       empty = settled t q ∙ ap (stack_of L s) (let u : t ≡ 0 = omega arith in u) ∙ stack-none L s
 
@@ -129,11 +121,11 @@ module _ (L made : ℕ) (held : Held) (s : List ℕ) where
       told-by = on_none L (compile S.book) μ c empty ∙ ap (m.on_first (λ (μ : Store). μ.nodes) take1 L (compile S.book) μ c) finds
 
       -- there is no call
-      pub begins-none : f ≡ Nothing → told_by S ≡ m.told (write_each L (graph_of L s) (c.value ∷ c.askers))
+      pub begins-none : f ≡ None → told_by S ≡ m.told (write_each L (graph_of L s) (c.value ∷ c.askers))
       unfolding m.on_first found_of
-      begins-none e = told-by ∙ ap (λ (y : Find). m.on_first (λ (μ : Store). μ.nodes) take1 L (compile S.book) μ c (found_of y)) e ∙ ap (λ (g : Graph). m.told (write_each L g (c.value ∷ c.askers))) (nodes-are L made s)
+      begins-none e = told-by ∙ ap (λ (y : Option NodeNo). m.on_first (λ (μ : Store). μ.nodes) take1 L (compile S.book) μ c (found_of y)) e ∙ ap (λ (g : Graph). m.told (write_each L g (c.value ∷ c.askers))) (nodes-are L made s)
 
-      module _ (h : NodeNo) (e : f ≡ At h) where
+      module _ (h : NodeNo) (e : f ≡ Some h) where
         is_some : first_call L μ.nodes c.value ≡ some h.0
         unfolding found_of
         is_some = finds ∙ ap found_of e
@@ -169,7 +161,7 @@ module _ (L made : ℕ) (held : Held) (s : List ℕ) where
           unfolding m.on_first found_of
           begins-first =
               let n : stack_of L s₂ (h.0 + 1) ≡ h.0 ∷ [] = ap (stack_of L s₂) (add-one h.0) ∙ pushed in (
-                told-by ∙ ap (λ (y : Find). m.on_first (λ (μ : Store). μ.nodes) take1 L (compile S.book) μ c (found_of y)) e ∙ ap (λ (l : List ℕ). m.stopped (drive_on L (compile S.book) l μ)) (sym n) ∙ ap (λ (y : Store). m.stopped (drive_on L (compile S.book) (stack_of L s₂ (h.0 + 1)) y)) (sym stored),
+                told-by ∙ ap (λ (y : Option NodeNo). m.on_first (λ (μ : Store). μ.nodes) take1 L (compile S.book) μ c (found_of y)) e ∙ ap (λ (l : List ℕ). m.stopped (drive_on L (compile S.book) l μ)) (sym n) ∙ ap (λ (y : Store). m.stopped (drive_on L (compile S.book) (stack_of L s₂ (h.0 + 1)) y)) (sym stored),
                 subst (λ (y : Store). Stacked S.book S.kept.comp.graph S.kept.comp.value S.stands.world y y (stack_of L s₂ (h.0 + 1))) (sym stored) (subst (Stacked S.book S.kept.comp.graph S.kept.comp.value S.stands.world μ μ) (sym n) stack₁),
               )
 
@@ -223,3 +215,52 @@ module _ (L made : ℕ) (held : Held) (s : List ℕ) where
 
         pub silent-searched : Searched L made (value_in held) s₁
         silent-searched = searched-same L made (value_in held) s s₁ Y.leaves.graph Y.leaves.closed Y.resumes
+
+  -- what `begin` promises: at the settled stack's top, at the value's first call, at none
+  module _ (S₀ : Standing L made held s) (z : Sized held.roots) (K : Searched L made (value_in held) s) (t : ℕ) (q : Settled L s held.top t) where
+    pub begun-settled : 0 < t → Begun L made held s s (Some t)
+    begun-settled h = record {
+      begun = λ S. begins-settled S t h q;
+      graph = refl;
+      links = λ S x i o. refl;
+      places = refl;
+      rest = refl;
+      marks = λ S x i o. refl;
+      finished = λ x w. w;
+      searched = K;
+      stack = λ d. inr (refl, begins-stack S₀ t q);
+      long = refl;
+    }
+
+    module _ (none_left : t ≤ 0) (f : Option NodeNo) (fe : found_of f ≡ first_call L (graph_of L s) (value_in held)) (s₁ : List ℕ) (W : SoughtFrom L (value_in held) s s₁) where
+      pub begun-silent : f ≡ None → Begun L made held s s₁ None
+      begun-silent e =
+          let G = silent-graph S₀ z t none_left q f fe s₁ K W in
+          record {
+            begun = λ S. begins-none S z t none_left q f fe e;
+            graph = G.0;
+            links = λ S. silent-links S z t none_left q f fe s₁ K W;
+            places = G.1;
+            rest = G.2;
+            marks = λ S. silent-marks S z t none_left q f fe s₁ K W;
+            finished = silent-finished S₀ z t none_left q f fe s₁ K W;
+            searched = silent-searched S₀ z t none_left q f fe s₁ K W;
+            stack = λ d. inl (begins-without S₀ t none_left q d);
+            long = G.3;
+          }
+
+      pub begun-first : (h : NodeNo) → f ≡ Some h → {s₂ : List ℕ} → Did L s₁ s₂ (set_link h.0 0) → 16 * L ≤ length (words s) → Begun L made held s s₂ (Some (h.0 + 1))
+      begun-first h e {s₂} d room =
+          let G = silent-graph S₀ z t none_left q f fe s₁ K W in
+          record {
+            begun = λ S. begins-first S z t none_left q f fe h e s₁ s₂ K W d room;
+            graph = ap (λ (m : Memory). m.graph) d.is ∙ G.0;
+            links = λ S. begins-links S z t none_left q f fe h e s₁ s₂ K W d room;
+            places = ap (λ (m : Memory). m.places) d.is ∙ G.1;
+            rest = ap (λ (m : Memory). m.rest) d.is ∙ G.2;
+            marks = λ S. begins-marks S z t none_left q f fe h e s₁ s₂ K W d room;
+            finished = begins-finished S₀ z t none_left q f fe h e s₁ s₂ K W d room;
+            searched = begins-searched S₀ z t none_left q f fe h e s₁ s₂ K W d room;
+            stack = λ d. inl (begins-without S₀ t none_left q d);
+            long = d.long ∙ G.3;
+          }

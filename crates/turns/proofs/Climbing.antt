@@ -72,18 +72,18 @@ module _ (book : Book) (B : FineBook book) where
   module _ (g : Graph) (G : Good (Takes (compile book)) g) (v : ℕ) where
     no-demand : (h : ℕ) (N : List ℕ) (rs : List Right) (slots M : List ℕ) (g' : Graph) → rule_stop g h N rs slots ≡ demand M g' → ⊥
     unfolding rule_stop
-    no-demand h N [] slots M g' e = let z : ◌≡◌ {A = ℕ} 0 1 = cc in omega arith
-    no-demand h N (r ∷ []) slots M g' e = let z : ◌≡◌ {A = ℕ} 0 1 = cc in omega arith
-    no-demand h N (r ∷ r' ∷ rs) slots M g' e = let z : ◌≡◌ {A = ℕ} 0 1 = cc in omega arith
+    no-demand h N [] slots M g' e = cc
+    no-demand h N (r ∷ []) slots M g' e = cc
+    no-demand h N (r ∷ r' ∷ rs) slots M g' e = cc
 
     demanded : (h : ℕ) (N : List ℕ) (x : Reached) (M : List ℕ) (g' : Graph) → stop_of (compile book) g h N x ≡ demand M g' → (k : ℕ) × (x ≡ demands k) × (M ≡ k ∷ h ∷ N) × (g' ≡ g)
     unfolding stop_of
     demanded h N (demands k) M g' e = (k, refl, cc, cc)
-    demanded h N (narrows x t) M g' e = let z : ◌≡◌ {A = ℕ} 0 1 = cc in absurd (omega arith)
+    demanded h N (narrows x t) M g' e = cc
     demanded h N (rewrites rs slots) M g' e = absurd (no-demand h N rs slots M g' e)
-    demanded h N fails M g' e = let z : ◌≡◌ {A = ℕ} 0 1 = cc in absurd (omega arith)
-    demanded h N misfits M g' e = let z : ◌≡◌ {A = ℕ} 0 1 = cc in absurd (omega arith)
-    demanded h N stuck M g' e = let z : ◌≡◌ {A = ℕ} 0 1 = cc in absurd (omega arith)
+    demanded h N fails M g' e = cc
+    demanded h N misfits M g' e = cc
+    demanded h N stuck M g' e = cc
 
     -- a call that is walked instead
     pub stacked-demand : {w₀ : World} {μ₀ μ : Store} (t : ℕ) (N : List ℕ) → Stacked book g v w₀ μ₀ μ (t ∷ N) → (M : List ℕ) (μ' : Store) → on_top (λ μ. μ.nodes) take1 (compile book) (look μ.nodes t) (t ∷ N) μ ≡ demand M μ' → Stacked book g v w₀ μ₀ μ' M

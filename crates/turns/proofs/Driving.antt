@@ -8,44 +8,35 @@ use mathlib.Core.Path.{◌≡◌, refl, sym, ap, ◌∙◌, subst}
 use mathlib.Core.Logic.{◌⊎◌, inl, inr}
 use mathlib.Core.List.{List, [], ◌∷◌, Memᴰ}
 use lib.ListN.{length, get_or, take, drop}
-use lib.Seq.{get_or-set_other, get_or-take, take-take}
+use lib.Seq.{get_or-set_other, get_or-take}
 use Rattle.heap.specs.Build.{up_from}
 use Rattle.heap.specs.Graph.{Graph, var, node}
 use Rattle.heap.specs.Store.{Store}
 use Rattle.engine.specs.Compile.{Program, compile}
 use Rattle.engine.specs.Machine as m
 use Rattle.standing.specs.Stands.{Ours}
-use Rattle.store.specs.Regions.{Memory, graph_of, links_of, rest_of, store_of, Did, set_link}
+use Rattle.store.specs.Regions.{Memory, graph_of, links_of, store_of, Did, set_link}
 use Rattle.store.specs.declared.NodeNo.{NodeNo}
 use Rattle.store.proofs.Laws.{length-graph}
 use Rattle.alternatives.proofs.Steps.{made-taken, nodes-are}
 use Rattle.machine.specs.Tables.{Space}
 use Rattle.pool.specs.Ring.{SameLinks}
-use Rattle.machine.specs.View.{stack_of, stop_of, demand_of}
-use Rattle.machine.specs.Contract.{Kept}
+use Rattle.machine.specs.View.{stack_of, stop_of}
+use Rattle.machine.specs.Contract.{Kept, Fine}
 use Rattle.machine.specs.Drive.{drive_on, top_stop, Topped}
 use Rattle.machine.specs.declared.Regs.{Regs}
 use Rattle.machine.specs.declared.Ended.{Ended}
-use Rattle.machine.specs.declared.Cur.TheVariants.{Empty, Holds}
 use Rattle.machine.specs.declared.Stop.{Stop}
 use Rattle.machine.specs.declared.Stop.TheVariants.{Demand, Becomes, Parts, Fails, Misfits, Broken, Full}
-use Rattle.turns.specs.Calls.{Stacked, Calls, CallLinks, HitCall}
+use Rattle.turns.specs.Calls.{Stacked, Calls, CallLinks, HitCall, Driven}
 use Rattle.seek.specs.Path.{CallAt}
 use Rattle.turns.proofs.Stops.{demands-call, becomes-call}
 use Rattle.turns.proofs.Climbing.{stacked-demand, stacked-distinct, stacked-few, stacked-ours}
 use Rattle.turns.proofs.Rooms.{low-top}
-use Rattle.turns.proofs.Links.{stack-links, stack_push, has_kept}
+use Rattle.machine.proofs.Frames.{kept_then, has_kept}
+use Rattle.turns.proofs.Links.{stack-links, stack_push}
 
--- a call is demanded, or none is
-demand-known : (x : Stop) (h : NodeNo) → demand_of x ≡ Holds h → x ≡ Demand h
-demand-known (Demand k) h e = cc
-demand-known (Becomes k r) h e = let z : ◌≡◌ {A = ℕ} 0 1 = cc in absurd (omega arith)
-demand-known (Parts k) h e = let z : ◌≡◌ {A = ℕ} 0 1 = cc in absurd (omega arith)
-demand-known Fails h e = let z : ◌≡◌ {A = ℕ} 0 1 = cc in absurd (omega arith)
-demand-known Misfits h e = let z : ◌≡◌ {A = ℕ} 0 1 = cc in absurd (omega arith)
-demand-known Broken h e = let z : ◌≡◌ {A = ℕ} 0 1 = cc in absurd (omega arith)
-demand-known Full h e = let z : ◌≡◌ {A = ℕ} 0 1 = cc in absurd (omega arith)
-
+-- no call is demanded
 abbrev NoDemand : m.Stop Store → Type 0
 NoDemand (m.demand N μ) = ⊥
 NoDemand (m.becomes h r N μ) = Unit
@@ -55,9 +46,9 @@ NoDemand (m.misfits μ) = Unit
 NoDemand m.broken = Unit
 NoDemand m.full = Unit
 
-no-demand : (L base : ℕ) (s : List ℕ) (r : Regs) (x : Stop) → demand_of x ≡ Empty → NoDemand (stop_of L base s r x)
+no-demand : (L base : ℕ) (s : List ℕ) (r : Regs) (x : Stop) → ((h : NodeNo) → x ≡ Demand h → ⊥) → NoDemand (stop_of L base s r x)
 unfolding stop_of
-no-demand L base s r (Demand k) e = let z : ◌≡◌ {A = ℕ} 0 1 = cc in absurd (omega arith)
+no-demand L base s r (Demand k) e = absurd (e k refl)
 no-demand L base s r (Becomes k j) e = tt
 no-demand L base s r (Parts k) e = tt
 no-demand L base s r Fails e = tt
@@ -69,7 +60,7 @@ no-demand L base s r Full e = tt
 module _ (p : Program) where
   drive-next : (n : ℕ) (N : List ℕ) (μ : Store) (M : List ℕ) (μ' : Store) → top_stop p N μ ≡ m.demand M μ' → drive_on (suc n) p N μ ≡ drive_on n p M μ'
   unfolding top_stop m.drive
-  drive-next n [] μ M μ' e = let z : ◌≡◌ {A = ℕ} 0 1 = cc in absurd (omega arith)
+  drive-next n [] μ M μ' e = cc
   drive-next n (t ∷ N) μ M μ' e = rw (e, m.drive)
 
   drive-ends : (n : ℕ) (N : List ℕ) (μ : Store) (x : m.Stop Store) → NoDemand x → top_stop p N μ ≡ x → drive_on (suc n) p N μ ≡ x
@@ -88,21 +79,6 @@ module _ (p : Program) where
   drive-over N μ = refl
 
 -- what stays
-pub kept-none : (L base made : ℕ) (s : List ℕ) → Kept L base made s s
-kept-none L base made s = record { nodes = refl; marks = refl; list = refl; places = refl; frames = refl; before = refl; behind = refl; long = refl }
-
-pub kept_then : {L base made k : ℕ} {s s' s'' : List ℕ} → made ≤ k → Kept L base made s s' → Kept L base k s' s'' → Kept L base made s s''
-kept_then {L} {base} {made} {k} {s} {s'} {s''} h a b = record {
-  nodes = sym (take-take made k (graph_of L s'') h) ∙ ap (take made) b.nodes ∙ take-take made k (graph_of L s') h ∙ a.nodes;
-  marks = b.marks ∙ a.marks;
-  list = b.list ∙ a.list;
-  places = b.places ∙ a.places;
-  frames = b.frames ∙ a.frames;
-  before = b.before ∙ a.before;
-  behind = b.behind ∙ a.behind;
-  long = b.long ∙ a.long;
-}
-
 kept-link : {L base made h v : ℕ} {s s' : List ℕ} → Did L s s' (set_link h v) → Kept L base made s s'
 kept-link {L} {base} {made} d = record {
   nodes = ap (λ (x : Memory). take made x.graph) d.is;
@@ -136,21 +112,18 @@ module _ (L base : ℕ) (code : List ℕ) (n top made : ℕ) (s₀ : List ℕ) w
       pub links : CallLinks L made C.world s₀ s
       pub deep : (x : ℕ) → Memᴰ x (stack_of L s₀ top) → Memᴰ x (stack_of L s t) × (get_or (links_of L s) x 0 ≡ get_or (links_of L s₀) x 0)
 
-    pub driving-start : Driving s₀ top made n
-    driving-start = record { onward = refl; stack = C.stack; links = λ x h o. refl; deep = λ x w. (w, refl) }
-
     pub driving-over : {s : List ℕ} {t k left : ℕ} → Driving s t k left → (r : Regs) → left ≤ 0 → stop_of L base s r Broken ≡ drive_on n p (stack_of L s₀ top) (store_of L made s₀)
     unfolding stop_of
     driving-over {s} {t} {k} {left} D r h = sym (D.onward ∙ ap (λ (j : ℕ). drive_on j p (stack_of L s t) (store_of L k s)) (let e : left ≡ 0 = omega arith in e) ∙ drive-over p (stack_of L s t) (store_of L k s))
 
     module _ {s : List ℕ} {t k left : ℕ} (D : Driving s t k left) (K : Kept L base made s₀ s) (more : made ≤ k) {s₁ : List ℕ} {a : Ended} (T : Topped L base code t k s s₁ a) where
       stops : stop_of L base s₁ a.regs a.stop ≡ top_stop p (stack_of L s t) (store_of L k s)
-      stops = T.is p (has_kept p base (rest_of L s₀) (rest_of L s) K.before C.tables) C.coded (low-top C.book C.fine C.accepted C.graph C.good C.value (stack_of L s t) D.stack)
+      stops = T.is p (has_kept K p C.tables) C.coded (low-top C.book C.fine C.accepted C.graph C.good C.value (stack_of L s t) D.stack)
 
-      pub driving-ends : 0 < left → Empty ≡ demand_of a.stop → stop_of L base s₁ a.regs a.stop ≡ drive_on n p (stack_of L s₀ top) (store_of L made s₀)
+      pub driving-ends : 0 < left → ((h : NodeNo) → a.stop ≡ Demand h → ⊥) → stop_of L base s₁ a.regs a.stop ≡ drive_on n p (stack_of L s₀ top) (store_of L made s₀)
       driving-ends h e =
           let q : left ≡ suc (left - 1) = omega arith in
-          sym (drive-ends p (left - 1) (stack_of L s t) (store_of L k s) (stop_of L base s₁ a.regs a.stop) (no-demand L base s₁ a.regs a.stop (sym e)) (sym stops))
+          sym (drive-ends p (left - 1) (stack_of L s t) (store_of L k s) (stop_of L base s₁ a.regs a.stop) (no-demand L base s₁ a.regs a.stop e) (sym stops))
           ∙ ap (λ (j : ℕ). drive_on j p (stack_of L s t) (store_of L k s)) (sym q)
           ∙ sym D.onward
 
@@ -175,13 +148,13 @@ module _ (L base : ℕ) (code : List ℕ) (n top made : ℕ) (s₀ : List ℕ) w
       pub driving-deep : SameLinks (links_of L s₀) (links_of L s₁) (stack_of L s₀ top)
       driving-deep x w = ap (λ (l : List ℕ). get_or l x 0) T.links ∙ (D.deep x w).1
 
-      module _ (room : Space L base s₀) (h : NodeNo) (e : Holds h ≡ demand_of a.stop) where
+      module _ (room : Space L base s₀) (h : NodeNo) (e : a.stop ≡ Demand h) where
         abbrev N : List ℕ
         N = stack_of L s t
 
         top-is : top_stop p N (store_of L k s) ≡ m.demand (h.0 ∷ N) (store_of L a.regs.made s₁)
         unfolding stop_of
-        top-is = sym stops ∙ ap (stop_of L base s₁ a.regs) (demand-known a.stop h (sym e)) ∙ ap (λ (z : List ℕ). m.demand (h.0 ∷ z) (store_of L a.regs.made s₁)) (ap (stack_of L s₁) T.top ∙ stack-links L s s₁ t T.links)
+        top-is = sym stops ∙ ap (stop_of L base s₁ a.regs) e ∙ ap (λ (z : List ℕ). m.demand (h.0 ∷ z) (store_of L a.regs.made s₁)) (ap (stack_of L s₁) T.top ∙ stack-links L s s₁ t T.links)
 
         stack₁ : Stacked C.book C.graph C.value C.world (store_of L made s₀) (store_of L a.regs.made s₁) (h.0 ∷ N)
         unfolding top_stop
@@ -218,23 +191,46 @@ module _ (L base : ℕ) (code : List ℕ) (n top made : ℕ) (s₀ : List ℕ) w
           called : (x : ℕ) → x < made → x ≡ h.0 → CallAt (graph_of L s₀) x
           called x lt q =
               let y : CallAt (graph_of L s₁) x = subst (CallAt (graph_of L s₁)) (sym q) (subst (λ (z : Graph). CallAt z h.0) (nodes-are L a.regs.made s₁) (demands-call p N (store_of L k s) h.0 N (store_of L a.regs.made s₁) top-is)) in
-              (y.0, y.1, sym (row_kept L base made s₀ s₁ (kept_then {k = k} more K T.kept) x lt) ∙ y.2)
+              (y.0, y.1, sym (row_kept L base made s₀ s₁ (kept_then {k' = k} more K T.kept) x lt) ∙ y.2)
 
           apart_from : (x : ℕ) → x < made → ¬ (Ours C.world x × CallAt (graph_of L s₀) x) → Ours C.world h.0 ⊎ Memᴰ h.0 (store_of L made s₀).free → x ≡ h.0 → ⊥
           apart_from x lt o (inl u) q = o (subst (Ours C.world) (sym q) u, called x lt q)
           apart_from x lt o (inr u) q = made-taken L made x s₀ lt h.0 u q
 
-          pub driving-next : 0 < left → Driving s₂ (h.0 + 1) a.regs.made (left - 1)
-          driving-next lt = subst (λ (j : ℕ). Driving s₂ j a.regs.made (left - 1)) (sym (add-one h.0)) (record {
-            onward = D.onward ∙ ap (λ (j : ℕ). drive_on j p N (store_of L k s)) q ∙ drive-next p (left - 1) N (store_of L k s) (h.0 ∷ N) (store_of L a.regs.made s₁) top-is ∙ ap (λ (z : List ℕ). drive_on (left - 1) p z (store_of L a.regs.made s₁)) (sym pushed) ∙ ap (drive_on (left - 1) p (stack_of L s₂ (suc h.0))) (sym stored);
+          pub driving-next : (left' : ℕ) → left ≡ left' + 1 → Driving s₂ (h.0 + 1) a.regs.made left'
+          driving-next left' one = subst (λ (j : ℕ). Driving s₂ j a.regs.made left') (sym (add-one h.0)) (record {
+            onward = D.onward ∙ ap (λ (j : ℕ). drive_on j p N (store_of L k s)) q ∙ drive-next p left' N (store_of L k s) (h.0 ∷ N) (store_of L a.regs.made s₁) top-is ∙ ap (λ (z : List ℕ). drive_on left' p z (store_of L a.regs.made s₁)) (sym pushed) ∙ ap (drive_on left' p (stack_of L s₂ (suc h.0))) (sym stored);
             stack = subst (λ (z : Store). Stacked C.book C.graph C.value C.world (store_of L made s₀) z (stack_of L s₂ (suc h.0))) (sym stored) (subst (Stacked C.book C.graph C.value C.world (store_of L made s₀) (store_of L a.regs.made s₁)) (sym pushed) stack₁);
             links = λ x i o. ap (λ (z : Memory). get_or z.links x 0) d.is ∙ get_or-set_other (links_of L s₁) h.0 x t 0 (λ u. apart_from x i o (stack₁.new h.0 ours) u) ∙ driving-links x i o;
             deep = λ x w. (subst (Memᴰ x) (sym pushed) (Memᴰ.tail (D.deep x w).0), ap (λ (z : Memory). get_or z.links x 0) d.is ∙ get_or-set_other (links_of L s₁) h.0 x t 0 ((stacked-distinct C.book C.fine C.graph C.good C.value stack₁).0 x (D.deep x w).0) ∙ driving-deep x w);
           })
             where
-              q : left ≡ suc (left - 1)
+              q : left ≡ suc left'
               q = omega arith
 
   -- what the loop keeps besides
   pub driving-kept : {s s₁ s₂ : List ℕ} {t k : ℕ} {a : Ended} {h v : ℕ} → Kept L base made s₀ s → made ≤ k → Topped L base code t k s s₁ a → Did L s₁ s₂ (set_link h v) → Kept L base made s₀ s₂
-  driving-kept {t = t} {k = k} {a = a} K more T d = kept_then more K (kept_then {k = a.regs.made} T.made T.kept (kept-link d))
+  driving-kept {t = t} {k = k} {a = a} K more T d = kept_then more K (kept_then {k' = a.regs.made} T.made T.kept (kept-link d))
+
+  -- what `drive` promises: of a call whose code ends with no other call, and of the last call that may be walked
+  pub driven-ends : {s s₁ : List ℕ} {t k left : ℕ} {a : Ended} → ((C : Calls L base code top made s₀) → Driving C s t k left) → Kept L base made s₀ s → made ≤ k → Topped L base code t k s s₁ a → 0 < left → ((h : NodeNo) → a.stop ≡ Demand h → ⊥) → Driven L base code n top made s₀ s₁ a
+  driven-ends D K more T some e = record {
+    is = λ C. driving-ends C (D C) K more T some e;
+    links = λ C. driving-links C (D C) K more T;
+    hit = λ C. driving-hit C (D C) K more T;
+    deep = λ C. driving-deep C (D C) K more T;
+    kept = kept_then more K T.kept;
+    more = let k = T.made in omega arith;
+    fine = T.fine;
+  }
+
+  pub driven-over : {s : List ℕ} {t k left : ℕ} → ((C : Calls L base code top made s₀) → Driving C s t k left) → Kept L base made s₀ s → made ≤ k → left ≤ 0 → (r : Regs) → Fine r → made ≤ r.made → Driven L base code n top made s₀ s (record { regs = r; stop = Broken })
+  driven-over D K more none r fine made' = record {
+    is = λ C. driving-over C (D C) r none;
+    links = λ C. (D C).links;
+    hit = λ C. tt;
+    deep = λ C x w. ((D C).deep x w).1;
+    kept = K;
+    more = made';
+    fine = fine;
+  }

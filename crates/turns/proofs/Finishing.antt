@@ -1,7 +1,9 @@
 -- The step that ends a turn, by how the code ended.
 -- Here, in order: nodes that are made; the alternatives' terms; a forward; alternatives; the ends that write nothing.
 -- Assumes nothing.
-use Prim.Native.Nat.{ℕ, zero, suc, ◌+◌, ◌-◌, ◌*◌, ◌≤◌, ◌<◌}
+use Prim.Native.Nat.{ℕ, zero, suc, ◌+◌, ◌-◌, ◌*◌, ◌≤◌, min}
+use lib.Dec.{leb}
+use borrow.Author.Tests.{leb-true, leb-false}
 use native.Mathlib.Omega.{arith}
 use mathlib.Core.Path.{◌≡◌, refl, sym, ap, ◌∙◌, subst}
 use mathlib.Core.Bool.{Bool, true, false}
@@ -23,23 +25,31 @@ use Rattle.machine.specs.declared.Stop.{Stop}
 use Rattle.machine.specs.declared.Stop.TheVariants.{Demand, Becomes, Parts, Fails, Misfits, Broken, Full}
 use Rattle.copier.specs.Listed.{Clean}
 use Rattle.pool.specs.declared.Held.{Held}
-use Rattle.pool.specs.Ring.{held_by, held_in, roots_of}
-use Rattle.alternatives.specs.Copies.{terms_in, alts_in, given_all, AllPoured}
-use Rattle.alternatives.specs.declared.Grown.{Grown}
+use Rattle.store.specs.Roots.{roots_of}
+use Rattle.pool.specs.Ring.{held_by, held_in}
+use Rattle.copier.specs.Poured.{given}
+use Rattle.alternatives.specs.Copies.{terms_in, alts_in, AllPoured}
+use Rattle.std.specs.Prelude.{Option, Some, None}
 use Rattle.turns.specs.Front.{Space, took_of}
-use Rattle.turns.specs.Ends.{Capped, regs_with, Finished}
+use Rattle.turns.specs.Ends.{regs_with, Finished}
 use Rattle.turns.specs.declared.Turned.{Turned}
 use Rattle.turns.specs.declared.What.{What}
 use Rattle.turns.specs.declared.What.TheVariants.{Went, Split, Failed, Misfit, NoneLeft, Lost}
 use Rattle.turns.proofs.Links.{stack_same, stack-links}
 
--- all nodes are made, or fewer
-pub capped-all : (L k : ℕ) → L < k → Capped L k L
-unfolding store_of up_from
-capped-all L k h = record { low = omega arith; least = λ n a b. b; store = λ s. (let e : L - L ≡ 0 = omega arith in let f : L - k ≡ 0 = omega arith in rw (e, f)) }
+-- k nodes are made, or all of L if k is above it
+pub record Capped (L k r : ℕ) : Type 0 where
+  pub low : r ≤ L
+  pub least : (n : ℕ) → n ≤ k → n ≤ L → n ≤ r
+  pub store : (s : List ℕ) → store_of L r s ≡ store_of L k s
 
-pub capped_same : (L k : ℕ) → k ≤ L → Capped L k k
-capped_same L k h = record { low = h; least = λ n a b. a; store = λ s. refl }
+pub capped_min : (L k r : ℕ) → r ≡ min k L → Capped L k r
+unfolding store_of up_from
+capped_min L k r e = record { low = omega arith; least = λ n a b. omega arith; store = λ s. go s (leb k L) refl }
+  where
+    go : (s : List ℕ) (b : Bool) → leb k L ≡ b → store_of L r s ≡ store_of L k s
+    go s true q = let le = leb-true k L q in let same : r ≡ k = omega arith in rw same
+    go s false q = let lt = leb-false k L q in let all : r ≡ L = omega arith in let e₁ : L - L ≡ 0 = omega arith in let e₂ : L - k ≡ 0 = omega arith in rw (all, e₁, e₂)
 
 -- the alternatives' terms, the first one first
 reverse-cons : (x : ℕ) (l : List ℕ) → reverse (x ∷ l) ≡ reverse l ++ x ∷ []
@@ -112,27 +122,28 @@ module _ (L base : ℕ) (held : Held) (made top terms : ℕ) (s : List ℕ) wher
     }
 
   -- alternatives
-  module _ (space : Space L base s) (few : terms ≤ 32) (s' : List ℕ) (h : NodeNo) (a : Grown) (P : AllPoured L base made held.roots h.0 terms s s' a) where
-    poured : (N : List ℕ) (b : Bool) → a.fits ≡ b → pour_all (store_of L made s) (held_by l N) h.0 (reverse (pre_terms L base s terms)) ≡ given_all b (store_of L a.made s') (alts_in L base held.roots.n terms s')
-    poured N b q = ap (pour_all (store_of L made s) (held_by l N) h.0) (terms-are L base s terms space.2 (omega arith)) ∙ P.is N ∙ ap (λ (z : Bool). given_all z (store_of L a.made s') (alts_in L base held.roots.n terms s')) q
+  module _ (space : Space L base s) (few : terms ≤ 32) (s' : List ℕ) (h : NodeNo) where
+    module _ (a : Option ℕ) (P : AllPoured L base made held.roots h.0 terms s s' a) where
+      poured : (N : List ℕ) → pour_all (store_of L made s) (held_by l N) h.0 (reverse (pre_terms L base s terms)) ≡ given (λ n. (store_of L n s', alts_in L base held.roots.n terms s')) a
+      poured N = ap (pour_all (store_of L made s) (held_by l N) h.0) (terms-are L base s terms space.2 (omega arith)) ∙ P.is N
 
-    aside : (w : What) → ((s₀ N : List ℕ) → took_of L base held s₀ s' (record { what = w; made = a.made; top = 0 }) w ≡ finish (held_by l N) (stop_of L base s (regs_with top terms made) (Parts h))) → Finished L base held made top terms (Parts h) s s' (record { what = w; made = a.made; top = 0 })
-    aside w f = record {
-      is = f;
-      more = P.more;
-      nodes = λ x lt o. P.aside.nodes x lt;
-      rows = λ g x lt. P.aside.nodes x lt;
-      marks = P.aside.marks;
-      links = P.aside.links;
-      rest = take-kept P.aside.rest (base + 2440) (omega arith);
-      long = P.aside.long;
-      clean = P.aside.clean;
-    }
+      aside : (w : What) (k : ℕ) → (made ≤ k) × (k ≤ L) → ((s₀ N : List ℕ) → took_of L base held s₀ s' (record { what = w; made = k; top = 0 }) w ≡ finish (held_by l N) (stop_of L base s (regs_with top terms made) (Parts h))) → Finished L base held made top terms (Parts h) s s' (record { what = w; made = k; top = 0 })
+      aside w k more f = record {
+        is = f;
+        more = more;
+        nodes = λ x lt o. P.aside.nodes x lt;
+        rows = λ g x lt. P.aside.nodes x lt;
+        marks = P.aside.marks;
+        links = P.aside.links;
+        rest = take-kept P.aside.rest (base + 2440) (omega arith);
+        long = P.aside.long;
+        clean = P.aside.clean;
+      }
 
-    pub ends-split : a.fits ≡ true → Finished L base held made top terms (Parts h) s s' (record { what = Split terms; made = a.made; top = 0 })
-    unfolding took_of finish stop_of given_all
-    ends-split q = aside (Split terms) (λ s₀ N. rw (poured N true q, finish))
+    pub ends-split : (k : ℕ) → AllPoured L base made held.roots h.0 terms s s' (Some k) → Finished L base held made top terms (Parts h) s s' (record { what = Split terms; made = k; top = 0 })
+    unfolding took_of finish stop_of given
+    ends-split k P = aside (Some k) P (Split terms) k P.more (λ s₀ N. rw (poured (Some k) P N, finish))
 
-    pub ends-none : a.fits ≡ false → Finished L base held made top terms (Parts h) s s' (record { what = NoneLeft; made = a.made; top = 0 })
-    unfolding took_of finish stop_of given_all
-    ends-none q = aside NoneLeft (λ s₀ N. rw (poured N false q, finish))
+    pub ends-none : AllPoured L base made held.roots h.0 terms s s' None → made ≤ L → Finished L base held made top terms (Parts h) s s' (record { what = NoneLeft; made = made; top = 0 })
+    unfolding took_of finish stop_of given
+    ends-none P low = aside None P NoneLeft made (omega arith, low) (λ s₀ N. rw (poured None P N, finish))

@@ -1,7 +1,6 @@
 -- A turn that walked a call writes no result: so where a result is to be written, the graph is as it was.
 -- Assumes nothing.
 use Prim.Native.Nat.{ℕ}
-use native.Mathlib.Omega.{arith}
 use mathlib.Core.Path.{◌≡◌, refl, ap, sym, ◌∙◌}
 use mathlib.Core.Option.{Option, none, some}
 use mathlib.Core.List.{List, []}
@@ -18,17 +17,17 @@ use Rattle.turns.specs.Ends.{Finished}
 -- no end of the code writes
 finish-no-result : (c : m.Held) (x : m.Stop Store) (b : List ℕ) → finish c x ≡ wrote b → ⊥
 unfolding finish
-finish-no-result c (m.demand N μ) b e = let z : ◌≡◌ {A = ℕ} 0 1 = cc in omega arith
-finish-no-result c (m.becomes h r N μ) b e = let z : ◌≡◌ {A = ℕ} 0 1 = cc in omega arith
+finish-no-result c (m.demand N μ) b e = cc
+finish-no-result c (m.becomes h r N μ) b e = cc
 finish-no-result c (m.parts h ks μ) b e = go (pour_all μ c h ks) refl
   where
     go : (o : Option (Store × List m.Held)) → pour_all μ c h ks ≡ o → ⊥
-    go none p = let q : none_left ≡ wrote b = rw (p, finish) at e in let z : ◌≡◌ {A = ℕ} 0 1 = cc in omega arith
-    go (some y) p = let q : split y.0 y.1 ≡ wrote b = rw (p, finish) at e in let z : ◌≡◌ {A = ℕ} 0 1 = cc in omega arith
-finish-no-result c (m.fails μ) b e = let z : ◌≡◌ {A = ℕ} 0 1 = cc in omega arith
-finish-no-result c (m.misfits μ) b e = let z : ◌≡◌ {A = ℕ} 0 1 = cc in omega arith
-finish-no-result c m.broken b e = let z : ◌≡◌ {A = ℕ} 0 1 = cc in omega arith
-finish-no-result c m.full b e = let z : ◌≡◌ {A = ℕ} 0 1 = cc in omega arith
+    go none p = let q : none_left ≡ wrote b = rw (p, finish) at e in cc
+    go (some y) p = let q : split y.0 y.1 ≡ wrote b = rw (p, finish) at e in cc
+finish-no-result c (m.fails μ) b e = cc
+finish-no-result c (m.misfits μ) b e = cc
+finish-no-result c m.broken b e = cc
+finish-no-result c m.full b e = cc
 
 pub finished-no-result : {L base made top terms : ℕ} {held : Held} {stop : Stop} {s s' : List ℕ} {r : Turned} → Finished L base held made top terms stop s s' r → r.what ≡ Wrote → ⊥
 unfolding took_of

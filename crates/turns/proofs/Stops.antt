@@ -2,7 +2,6 @@
 -- Here, in order: how code may end; the instructions' own tests; an instruction; code; a call that becomes a forward.
 -- Assumes nothing.
 use Prim.Native.Nat.{ℕ, zero, suc}
-use native.Mathlib.Omega.{arith}
 use mathlib.Core.Path.{◌≡◌, refl, sym, ap, ◌∙◌, subst}
 use mathlib.Core.Bool.{Bool, true, false}
 use mathlib.Core.Option.{Option, none, some}
@@ -110,16 +109,16 @@ module _ (p : Program) where
   -- a call that is walked instead
   pub demands-call : (N : List ℕ) (μ : Store) (h : ℕ) (M : List ℕ) (μ' : Store) → top_stop p N μ ≡ m.demand (h ∷ M) μ' → CallAt μ'.nodes h
   unfolding top_stop
-  demands-call [] μ h M μ' e = let z : ◌≡◌ {A = ℕ} 0 1 = cc in absurd (omega arith)
+  demands-call [] μ h M μ' e = cc
   demands-call (t ∷ N) μ h M μ' e = subst (EndsWell (t ∷ N)) e (top-well (look μ.nodes t) (t ∷ N) μ) h M refl
 
   -- code runs for a call only
   runs_call : (x : Node) (N : List ℕ) (μ : Store) (h r : ℕ) (M : List ℕ) (μ' : Store) → m.on_top nodes_in take1 p x N μ ≡ m.becomes h r M μ' → (f : ℕ) × (hs : List ℕ) × (x ≡ cell (fun f) hs)
   unfolding m.on_top
   runs_call (cell (fun f) hs) N μ h r M μ' e = (f, hs, refl)
-  runs_call (cell (con c) hs) N μ h r M μ' e = let z : ◌≡◌ {A = ℕ} 0 1 = cc in absurd (omega arith)
-  runs_call var N μ h r M μ' e = let z : ◌≡◌ {A = ℕ} 0 1 = cc in absurd (omega arith)
-  runs_call (fwd k) N μ h r M μ' e = let z : ◌≡◌ {A = ℕ} 0 1 = cc in absurd (omega arith)
+  runs_call (cell (con c) hs) N μ h r M μ' e = cc
+  runs_call var N μ h r M μ' e = cc
+  runs_call (fwd k) N μ h r M μ' e = cc
 
 -- a call that becomes a forward: where the stack's top leads to, which is a call and stays one while nodes are made
 module _ (book : Book) (g : Graph) (v : ℕ) where

@@ -1,11 +1,11 @@
 -- One turn, put together.
--- Here, in order: how the code ended and what the step relies on; what stays; calls on a stack; the turn.
+-- Here, in order: how the code ended and what the step relies on; what stays; calls on a stack; the turn; what it promises.
 -- Assumes nothing.
 use Prim.Native.Nat.{ℕ, zero, suc, ◌+◌, ◌≤◌, ◌<◌}
 use native.Mathlib.Omega.{arith}
 use mathlib.Core.Path.{◌≡◌, refl, sym, ap, ◌∙◌, subst}
 use mathlib.Core.Logic.{◌⊎◌, inl, inr, ◌≢◌}
-use mathlib.Core.Bool.{true, false}
+use Rattle.std.specs.Prelude.{Some, None}
 use mathlib.Core.List.Memᴰ
 use mathlib.Core.List.{List, [], ◌∷◌, reverse, Memᴰ}
 use lib.ListN.{length, get_or, take, drop, length-reverse}
@@ -39,19 +39,20 @@ use Rattle.copier.specs.Listed.{Clean}
 use Rattle.seek.specs.Path.{Closed, Resumes, CallAt, Later}
 use Rattle.seek.proofs.Survives.{later_rows, later_same, closed-later, resumes-later}
 use Rattle.pool.specs.declared.Held.{Held}
-use Rattle.pool.specs.Ring.{Sized, held_by, held_in, roots_of, SameLinks}
+use Rattle.store.specs.Roots.{roots_of}
+use Rattle.pool.specs.Ring.{Sized, held_by, held_in, SameLinks}
 use Rattle.pool.specs.Ring as p
-use Rattle.turns.specs.Front.{Space, Standing, Front, told_by, took_of, value_in, Searched, Stays, Dropped}
+use Rattle.turns.specs.Front.{Space, Standing, Front, told_by, took_of, value_in, Searched, Stays, Dropped, TurnTaken}
 use Rattle.turns.specs.Calls.{Calls, HitCall, Driven, StackKept, Begun}
-use Rattle.turns.specs.Ends.{Capped, regs_with, Stopped, Hit, Finished}
+use Rattle.turns.specs.Ends.{regs_with, Stopped, Hit, Finished}
 use Rattle.turns.specs.declared.Turned.{Turned}
-use Rattle.turns.specs.declared.Began.{Began}
 use Rattle.turns.specs.declared.What.TheVariants.{Went, Wrote}
 use Rattle.turns.proofs.Grounds.{ours-made}
 use Rattle.turns.proofs.Driving.{row_kept}
 use Rattle.turns.proofs.Begins.{ground}
 use Rattle.turns.proofs.Few.{few-alternatives}
-use Rattle.turns.proofs.Finishing.{terms-are}
+use Rattle.turns.proofs.Finishing.{Capped, terms-are}
+use Rattle.turns.proofs.Silent.{finished-no-result}
 
 -- the registers that the end of the code speaks of
 stop-regs : (L base : ℕ) (s : List ℕ) (r : Regs) (k : ℕ) → store_of L k s ≡ store_of L r.made s → (x : Stop) → stop_of L base s r x ≡ stop_of L base s (regs_with r.top r.terms k) x
@@ -116,11 +117,11 @@ settle-has g (h ∷ N) x f hs e w = go (settle-has g N x f hs e) (look g h) refl
 
     go : (Memᴰ x N → Memᴰ x (m.settle g N)) → (y : Node) → look g h ≡ y → (x ≡ h) ⊎ Memᴰ x N → Memᴰ x (m.settle g (h ∷ N))
     go ih (cell (fun k) ks) q u = rw (q, m.settle) w
-    go ih (cell (con c) ks) q (inl u) = let z = call (cell (con c) ks) q u in let d : ◌≡◌ {A = ℕ} 0 1 = cc in absurd (omega arith)
+    go ih (cell (con c) ks) q (inl u) = let z = call (cell (con c) ks) q u in cc
     go ih (cell (con c) ks) q (inr u) = rw (q, m.settle) (ih u)
-    go ih var q (inl u) = let z = call var q u in let d : ◌≡◌ {A = ℕ} 0 1 = cc in absurd (omega arith)
+    go ih var q (inl u) = let z = call var q u in cc
     go ih var q (inr u) = rw (q, m.settle) (ih u)
-    go ih (fwd k) q (inl u) = let z = call (fwd k) q u in let d : ◌≡◌ {A = ℕ} 0 1 = cc in absurd (omega arith)
+    go ih (fwd k) q (inl u) = let z = call (fwd k) q u in cc
     go ih (fwd k) q (inr u) = rw (q, m.settle) (ih u)
 
 -- without a top there is no entry
@@ -151,8 +152,8 @@ module _ (L base : ℕ) (code : List ℕ) (made : ℕ) (held : Held) (s : List �
       go x (same_stop {x = y} z) = at-stop y z
 
   -- the calls that are walked
-  pub front-calls : (s₁ : List ℕ) (b : Began) → Begun L made held s s₁ b → b.calls ≡ true → Calls L base code b.top made s₁
-  front-calls s₁ b B e = record {
+  pub front-calls : (s₁ : List ℕ) (t : ℕ) → Begun L made held s s₁ (Some t) → Calls L base code t made s₁
+  front-calls s₁ t B = record {
     book = S.book;
     accepted = S.accepted;
     fine = S.fine;
@@ -162,10 +163,10 @@ module _ (L base : ℕ) (code : List ℕ) (made : ℕ) (held : Held) (s : List �
     good = S.sound.whole.good;
     value = S.kept.comp.value;
     world = S.stands.world;
-    stack = (B.called e S).1;
+    stack = (B.begun S).1;
   }
 
-  module _ (s₁ s₂ : List ℕ) (b : Began) (B : Begun L made held s s₁ b) (e : b.calls ≡ true) (a : Ended) (D : Driven L base code L b.top made s₁ s₂ a) (k : ℕ) (K : Capped L a.regs.made k) (space : Space L base s) (low : made ≤ L) where
+  module _ (s₁ s₂ : List ℕ) (t : ℕ) (B : Begun L made held s s₁ (Some t)) (a : Ended) (D : Driven L base code L t made s₁ s₂ a) (k : ℕ) (K : Capped L a.regs.made k) (space : Space L base s) (low : made ≤ L) where
     abbrev x : Stop
     x = a.stop
 
@@ -174,7 +175,7 @@ module _ (L base : ℕ) (code : List ℕ) (made : ℕ) (held : Held) (s : List �
 
     tells : told_by S ≡ m.stopped (stop_of L base s₂ rs x)
     unfolding front-calls
-    tells = (B.called e S).0 ∙ ap m.stopped (sym (D.is (front-calls s₁ b B e)) ∙ stop-regs L base s₂ a.regs k (K.store s₂) x)
+    tells = (B.begun S).0 ∙ ap m.stopped (sym (D.is (front-calls s₁ t B)) ∙ stop-regs L base s₂ a.regs k (K.store s₂) x)
 
     long : length (words s₂) ≡ length (words s)
     long = D.kept.long ∙ B.long
@@ -233,7 +234,7 @@ module _ (L base : ℕ) (code : List ℕ) (made : ℕ) (held : Held) (s : List �
       -- only calls have changed, of what was made
       no_hit : (y : ℕ) → y < made → ¬ (CallAt (graph_of L s) y) → ¬ (Hit x y)
       unfolding front-calls
-      no_hit y lt o = go x (D.hit (front-calls s₁ b B e))
+      no_hit y lt o = go x (D.hit (front-calls s₁ t B))
         where
           go : (z : Stop) → HitCall L s₂ z → ¬ (Hit z y)
           go (Demand h) q = λ w. w
@@ -261,7 +262,7 @@ module _ (L base : ℕ) (code : List ℕ) (made : ℕ) (held : Held) (s : List �
       turn-searched z = record {
         closed = closed-later closed₁ turn-later (marks_of L s₃) (λ y. ap (λ (l : List ℕ). get_or l y 0) same-marks);
         resumes = resumes-later closed₁ turn-later (ground L made held s S z) (links_of L s₁) (marks_of L s₃) (links_of L s₃) (λ y q. ap (λ (l : List ℕ). get_or l y 0) same-marks ∙ q) (λ y w. ap (λ (l : List ℕ). get_or l y 0) same-marks)
-            (λ y w o. ap (λ (l : List ℕ). get_or l y 0) Z.links ∙ D.links (front-calls s₁ b B e) y (ours-made L made s S.stands y w) (λ u. o (subst (λ (g : Graph). CallAt g y) B.graph u.1)))
+            (λ y w o. ap (λ (l : List ℕ). get_or l y 0) Z.links ∙ D.links (front-calls s₁ t B) y (ours-made L made s S.stands y w) (λ u. o (subst (λ (g : Graph). CallAt g y) B.graph u.1)))
             (subst (λ (g : Graph). Resumes made g (marks_of L s₁) (links_of L s₁) (value_in held)) B.graph B.searched.resumes);
       }
 
@@ -269,7 +270,7 @@ module _ (L base : ℕ) (code : List ℕ) (made : ℕ) (held : Held) (s : List �
       unfolding front-calls
       turn-stays = record {
         nodes = λ y lt o. Z.nodes y (let i = made_in in omega arith) (turn-own y lt o) ∙ row_kept L base made s₁ s₂ D.kept y lt ∙ ap (λ (g : Graph). node g y) B.graph;
-        links = λ y lt o. ap (λ (l : List ℕ). get_or l y 0) Z.links ∙ D.links (front-calls s₁ b B e) y lt (λ u. o u.0) ∙ B.links S y lt o;
+        links = λ y lt o. ap (λ (l : List ℕ). get_or l y 0) Z.links ∙ D.links (front-calls s₁ t B) y lt (λ u. o u.0) ∙ B.links S y lt o;
         rest = Z.rest ∙ D.kept.before ∙ ap (take (base + 2440)) B.rest;
         long = Z.long ∙ long;
         marks = λ y lt o. ap (λ (l : List ℕ). get_or l y 0) same-marks ∙ B.marks S y lt o;
@@ -285,36 +286,36 @@ module _ (L base : ℕ) (code : List ℕ) (made : ℕ) (held : Held) (s : List �
       unfolding front-calls
       turn-stack kept = go (B.stack kept)
         where
-          C : Calls L base code b.top made s₁
-          C = front-calls s₁ b B e
+          C : Calls L base code t made s₁
+          C = front-calls s₁ t B
 
           links₃ : (y : ℕ) → get_or (links_of L s₃) y 0 ≡ get_or (links_of L s₂) y 0
           links₃ y = ap (λ (l : List ℕ). get_or l y 0) Z.links
 
           no_call : (y : ℕ) → links_of L s₁ ≡ links_of L s → Memᴰ y c.stack → ¬ (CallAt (graph_of L s) y) → get_or (links_of L s₃) y 0 ≡ get_or (links_of L s) y 0
-          no_call y q w o = links₃ y ∙ D.links (front-calls s₁ b B e) y (ours-made L made s S.stands y (each-ours S.stands.holds S.kept.stack c.stack S.stands.helds.stack y w)) (λ u. o (subst (λ (g : Graph). CallAt g y) B.graph u.1)) ∙ ap (λ (l : List ℕ). get_or l y 0) q
+          no_call y q w o = links₃ y ∙ D.links (front-calls s₁ t B) y (ours-made L made s S.stands y (each-ours S.stands.holds S.kept.stack c.stack S.stands.helds.stack y w)) (λ u. o (subst (λ (g : Graph). CallAt g y) B.graph u.1)) ∙ ap (λ (l : List ℕ). get_or l y 0) q
 
           other : (y : ℕ) (x : Node) → node (graph_of L s) y ≡ x → ((f : ℕ) (hs : List ℕ) → x ≡ cell (fun f) hs → ⊥) → ¬ (CallAt (graph_of L s) y)
           other y x a f u = f u.0 u.1 (sym a ∙ u.2)
 
-          at : (q : links_of L s₁ ≡ links_of L s) (t : stack_of L s₁ b.top ≡ m.settle (graph_of L s) c.stack) (y : ℕ) → Memᴰ y c.stack → (x : Node) → node (graph_of L s) y ≡ x → get_or (links_of L s₃) y 0 ≡ get_or (links_of L s) y 0
-          at q t y w (cell (fun f) hs) a = links₃ y ∙ D.deep C y (subst (Memᴰ y) (sym t) (settle-has (graph_of L s) c.stack y f hs a w)) ∙ ap (λ (l : List ℕ). get_or l y 0) q
-          at q t y w (cell (con k) hs) a = no_call y q w (other y (cell (con k) hs) a (λ f hs' z. (let d : ◌≡◌ {A = ℕ} 0 1 = cc in omega arith)))
-          at q t y w var a = no_call y q w (other y var a (λ f hs' z. (let d : ◌≡◌ {A = ℕ} 0 1 = cc in omega arith)))
-          at q t y w (fwd k) a = no_call y q w (other y (fwd k) a (λ f hs' z. (let d : ◌≡◌ {A = ℕ} 0 1 = cc in omega arith)))
+          at : (q : links_of L s₁ ≡ links_of L s) (u : stack_of L s₁ t ≡ m.settle (graph_of L s) c.stack) (y : ℕ) → Memᴰ y c.stack → (x : Node) → node (graph_of L s) y ≡ x → get_or (links_of L s₃) y 0 ≡ get_or (links_of L s) y 0
+          at q u y w (cell (fun f) hs) a = links₃ y ∙ D.deep C y (subst (Memᴰ y) (sym u) (settle-has (graph_of L s) c.stack y f hs a w)) ∙ ap (λ (l : List ℕ). get_or l y 0) q
+          at q u y w (cell (con k) hs) a = no_call y q w (other y (cell (con k) hs) a (λ f hs' z. (cc)))
+          at q u y w var a = no_call y q w (other y var a (λ f hs' z. (cc)))
+          at q u y w (fwd k) a = no_call y q w (other y (fwd k) a (λ f hs' z. (cc)))
 
-          go : StackKept L held s s₁ b → SameLinks (links_of L s) (links_of L s₃) c.stack
+          go : StackKept L held s s₁ (Some t) → SameLinks (links_of L s) (links_of L s₃) c.stack
           go (inl z) = λ y w. absurd (Memᴰ.not-nil (subst (Memᴰ y) (held_none L s held z) w))
-          go (inr (q, t)) = λ y w. at q t y w (node (graph_of L s) y) refl
+          go (inr (q, u)) = λ y w. at q u y w (node (graph_of L s) y) refl
 
       pub turn_more : (made ≤ r.made) × (r.made ≤ L)
       turn_more = let i = made_in in let j = Z.more.0 in (omega arith, Z.more.1)
 
   -- there is no call
-  module _ (s₁ : List ℕ) (b : Began) (B : Begun L made held s s₁ b) (e : b.calls ≡ false) where
+  module _ (s₁ : List ℕ) (B : Begun L made held s s₁ None) where
     pub silent-is : (r : Turned) → took_of L base held s s₁ r Wrote ≡ store_turn L (compile S.book) μ c
     unfolding took_of
-    silent-is r = sym (turn-told L (compile S.book) μ c (write_each L (graph_of L s) (c.value ∷ c.askers)) (B.silent e S))
+    silent-is r = sym (turn-told L (compile S.book) μ c (write_each L (graph_of L s) (c.value ∷ c.askers)) (B.begun S))
 
     pub silent-stays : Clean L s → Stays L base made (Ours S.stands.world) s s₁
     silent-stays clean = record {
@@ -329,9 +330,38 @@ module _ (L base : ℕ) (code : List ℕ) (made : ℕ) (held : Held) (s : List �
     pub silent-stack : ¬ (Dropped L held s) → SameLinks (links_of L s) (links_of L s₁) c.stack
     silent-stack kept = go (B.stack kept)
       where
-        go : StackKept L held s s₁ b → SameLinks (links_of L s) (links_of L s₁) c.stack
+        go : StackKept L held s s₁ None → SameLinks (links_of L s) (links_of L s₁) c.stack
         go (inl z) = λ y w. absurd (Memᴰ.not-nil (subst (Memᴰ y) (held_none L s held z) w))
         go (inr (q, t)) = λ y w. ap (λ (l : List ℕ). get_or l y 0) q
 
     pub silent-later : Later made (graph_of L s) made (graph_of L s₁)
     silent-later = subst (Later made (graph_of L s) made) (sym B.graph) (later_same made (graph_of L s))
+
+-- what `take_turn` promises: of a turn whose code ran, and of one that finds no call
+module _ (L base : ℕ) (code : List ℕ) (made : ℕ) (held : Held) (s : List ℕ) (F₀ : Front L base code made held s) (low : made ≤ L) where
+  pub turn-taken : {s₁ s₂ s₃ : List ℕ} {t k : ℕ} {a : Ended} {r : Turned} → Begun L made held s s₁ (Some t) → Driven L base code L t made s₁ s₂ a → Capped L a.regs.made k → Space L base s → Sized held.roots
+      → Finished L base held k a.regs.top a.regs.terms a.stop s₂ s₃ r → TurnTaken L base code made held s s₃ r
+  turn-taken {s₁} {s₂} {s₃} {t} {k} {a} {r} B D K space z Z = record {
+    is = λ F. turn_is L base code made held s F s₁ s₂ t B a D k K space low s₃ r Z;
+    stays = λ F. turn-stays L base code made held s F s₁ s₂ t B a D k K space low s₃ r Z;
+    more = turn_more L base code made held s F₀ s₁ s₂ t B a D k K space low s₃ r Z;
+    still = λ w. absurd (finished-no-result Z w);
+    later = turn-later L base code made held s F₀ s₁ s₂ t B a D k K space low s₃ r Z;
+    finished = turn-finished L base code made held s F₀ s₁ s₂ t B a D k K space low s₃ r Z;
+    searched = turn-searched L base code made held s F₀ s₁ s₂ t B a D k K space low s₃ r Z z;
+    rows = turn-rows L base code made held s F₀ s₁ s₂ t B a D k K space low s₃ r Z;
+    stack = turn-stack L base code made held s F₀ s₁ s₂ t B a D k K space low s₃ r Z;
+  }
+
+  pub silent-taken : {s₁ : List ℕ} → Begun L made held s s₁ None → Clean L s → TurnTaken L base code made held s s₁ (record { what = Wrote; made = made; top = 0 })
+  silent-taken {s₁} B clean = record {
+    is = λ F. silent-is L base code made held s F s₁ B _;
+    stays = λ F. silent-stays L base code made held s F s₁ B clean;
+    more = (omega arith, low);
+    still = λ w. B.graph;
+    later = silent-later L base code made held s F₀ s₁ B;
+    finished = B.finished;
+    searched = B.searched;
+    rows = λ f y lt. ap (λ (g : Graph). node g y) B.graph;
+    stack = silent-stack L base code made held s F₀ s₁ B;
+  }

@@ -2,7 +2,7 @@
 -- Here, in order: a stack that climbs; the calls; links and marks that stay; what becomes a forward; what the calls come to; the stack at the turn's begin; where a turn begins.
 -- Not here: the turn (Front).
 -- Assumes nothing.
-use Rattle.std.specs.Prelude.{ℕ, ◌≤◌, ◌<◌, ◌≡◌, ◌⊎◌, true, false, length, get_or}
+use Rattle.std.specs.Prelude.{ℕ, ◌≤◌, ◌<◌, ◌≡◌, ◌⊎◌, length, get_or, Option, Some, None, MatchOption}
 use mathlib.Core.List.{List, ◌∷◌, Memᴰ}
 use Rattle.mem.specs.Words.{words}
 use Rattle.book.specs.Syntax.{Book}
@@ -30,7 +30,6 @@ use Rattle.seek.specs.Path.{CallAt}
 use Rattle.pool.specs.declared.Held.{Held}
 use Rattle.pool.specs.Ring.{held_in, SameLinks}
 use Rattle.turns.specs.Front.{Standing, told_by, value_in, Searched, Dropped}
-use Rattle.turns.specs.declared.Began.{Began}
 
 -- the stack N, its top a call, stands for a chain in the computation's own graph; its numbers are those of the world w₀, or were free in μ₀
 pub record Stacked (book : Book) (g : Graph) (v : ℕ) (w₀ : World) (μ₀ μ : Store) (N : List ℕ) : Type 0 where
@@ -89,15 +88,20 @@ pub record Driven (L base : ℕ) (code : List ℕ) (n top made : ℕ) (s s' : Li
   pub more : made ≤ a.regs.made
   pub fine : Fine a.regs
 
+-- the top + 1 of the stack where a turn begins; 0 where it begins at no call
+abbrev pub top_in : Option ℕ → ℕ
+top_in None = 0
+top_in (Some t) = t
+
 -- there is no stack, or it is settled and no link is written
-abbrev pub StackKept : ℕ → Held → List ℕ → List ℕ → Began → Type 0
-StackKept L held s s' r = (held.top ≡ 0) ⊎ ((links_of L s' ≡ links_of L s) × (stack_of L s' r.top ≡ m.settle (graph_of L s) (held_in L s held).stack))
+abbrev pub StackKept : ℕ → Held → List ℕ → List ℕ → Option ℕ → Type 0
+StackKept L held s s' r = (held.top ≡ 0) ⊎ ((links_of L s' ≡ links_of L s) × (stack_of L s' (top_in r) ≡ m.settle (graph_of L s) (held_in L s held).stack))
 
 -- where a turn begins: at a call on the stack's top, or there is none
-pub record Begun (L made : ℕ) (held : Held) (s s' : List ℕ) (r : Began) : Type 0 where
-  pub called : r.calls ≡ true → (S : Standing L made held s) → (told_by S ≡ m.stopped (drive_on L (compile S.book) (stack_of L s' r.top) (store_of L made s')))
-      × Stacked S.book S.kept.comp.graph S.kept.comp.value S.stands.world (store_of L made s') (store_of L made s') (stack_of L s' r.top)
-  pub silent : r.calls ≡ false → (S : Standing L made held s) → told_by S ≡ m.told (write_each L (graph_of L s) ((held_in L s held).value ∷ (held_in L s held).askers))
+pub record Begun (L made : ℕ) (held : Held) (s s' : List ℕ) (r : Option ℕ) : Type 0 where
+  pub begun : (S : Standing L made held s) → MatchOption r
+      (told_by S ≡ m.told (write_each L (graph_of L s) ((held_in L s held).value ∷ (held_in L s held).askers)))
+      (λ t. (told_by S ≡ m.stopped (drive_on L (compile S.book) (stack_of L s' t) (store_of L made s'))) × Stacked S.book S.kept.comp.graph S.kept.comp.value S.stands.world (store_of L made s') (store_of L made s') (stack_of L s' t))
   pub graph : graph_of L s' ≡ graph_of L s
   pub links : (S : Standing L made held s) → OwnLinks L made S.stands.world s s'
   pub places : places_of L s' ≡ places_of L s

@@ -1,33 +1,28 @@
 -- The step that ends a turn.
--- Here, in order: how many nodes are made, as far as there are so many; what the step relies on; what it writes; what it does.
+-- Here, in order: what the step relies on; what it writes; what it does.
 -- Not here: the copies for alternatives (crate alternatives), the turn (Front).
 -- Assumes nothing.
-use Rattle.std.specs.Prelude.{ℕ, ◌+◌, ◌≤◌, ◌<◌, false, ◌≡◌, ◌≢◌, List, length, take}
+use Rattle.std.specs.Prelude.{ℕ, ◌+◌, ◌≤◌, ◌<◌, ◌≡◌, ◌≢◌, List, length, take, None}
 use Rattle.mem.specs.Words.{words}
 use Rattle.heap.specs.Graph.{node}
 use Rattle.standing.specs.Shared.{finish}
-use Rattle.store.specs.Regions.{graph_of, marks_of, links_of, rest_of, store_of}
+use Rattle.store.specs.Regions.{graph_of, marks_of, links_of, rest_of}
 use Rattle.machine.specs.View.{stop_of}
 use Rattle.machine.specs.declared.Regs.{Regs}
 use Rattle.machine.specs.declared.Stop.{Stop}
 use Rattle.machine.specs.declared.Stop.TheVariants.{Demand, Becomes, Parts, Fails, Misfits, Broken, Full}
 use Rattle.copier.specs.Listed.{Clean}
 use Rattle.pool.specs.declared.Held.{Held}
-use Rattle.pool.specs.Ring.{held_by, roots_of}
+use Rattle.pool.specs.Ring.{held_by}
+use Rattle.store.specs.Roots.{roots_of}
 use Rattle.alternatives.specs.Copies.{Divides, terms_in}
 use Rattle.turns.specs.Front.{took_of}
 use Rattle.turns.specs.declared.Turned.{Turned}
 use Rattle.turns.specs.declared.What.TheVariants.{Went}
 
--- k nodes are made, or all of L if k is above it
-pub record Capped (L k r : ℕ) : Type 0 where
-  pub low : r ≤ L
-  pub least : (n : ℕ) → n ≤ k → n ≤ L → n ≤ r
-  pub store : (s : List ℕ) → store_of L r s ≡ store_of L k s
-
 -- the registers that an end of the code speaks of
 abbrev pub regs_with : ℕ → ℕ → ℕ → Regs
-regs_with top terms made = record { pc = 0; top = top; holds = false; cur = record { 0 = 0 }; terms = terms; vars = 0; made = made }
+regs_with top terms made = record { pc = 0; top = top; cur = None; terms = terms; vars = 0; made = made }
 
 -- a forward's node is one of the store; a node with alternatives has at most 32, and the computation is to be split there
 abbrev pub Stopped : ℕ → ℕ → Held → ℕ → ℕ → List ℕ → Stop → Type 0

@@ -1,110 +1,53 @@
 // The calls of a turn: where it begins, and each call that is walked.
 ghost use Rattle.std.specs.Prelude.{◌≡◌, ℕ, ◌+◌, ◌*◌, ◌<◌, ◌≤◌, length};
-ghost use Rattle.store.specs.Regions.{Room};
+ghost use Rattle.store.specs.Whole.{SameLoan};
 ghost use Rattle.machine.specs.Tables.{Space, code_bound};
-ghost use Rattle.machine.specs.View.{demand_of};
 ghost use Rattle.pool.specs.Ring.{Sized};
 ghost use Rattle.turns.specs.Front.{Standing, value_in, Searched};
 ghost use Rattle.turns.specs.Calls.{Calls, Driven, Begun};
 
-use crate::Began;
-use machine::{Cur, Ended, Regs, Stop};
+use machine::{Ended, Regs, Stop};
 use pool::Held;
-use seek::Find;
-use store::NodeNo;
+use store::{NodeNo, Store};
 
-// Where a turn begins: the settled stack's top, or the value's first call where the stack is empty.
-pub fn begin(s: &mut [u8], limit: usize, made: usize, held: Held) -> Began
-    requires room { Room limit s.old }
-    requires standing { Standing limit made held s.old }
+// The top + 1 of the stack where a turn begins, its top a call: the settled stack, or the value's first call where that is empty.
+pub fn begin(store: &mut Store, made: usize, held: Held) -> Option<u16>
+    requires standing { Standing store.old.limit made held store.old.bytes.now }
     requires sized { Sized held.roots }
-    requires searched { Searched limit made (value_in held) s.old }
-    ensures { Begun limit made held s.old s.new result }
+    requires searched { Searched store.old.limit made (value_in held) store.old.bytes.now }
+    ensures loan { SameLoan store.old store.new }
+    ensures begun { Begun store.old.limit made held store.old.bytes.now store.new.bytes.now result }
 {
-    let top = machine::calls::settle(s, limit, held.top);
+    let top = machine::calls::settle(store, held.top);
     if top > 0 {
-        return Began {
-            calls: true,
-            top: top,
-        };
+        return Some(top);
     }
-    let roots = held.roots;
-    let at = roots.at;
-    let f = seek::first_call(s, limit, NodeNo(at[0]));
-    match f {
-        Find::Nothing => Began {
-            calls: false,
-            top: 0,
-        },
-        Find::At(h) => {
-            store::put_link(s, limit, h, 0);
-            Began {
-                calls: true,
-                top: h.0 + 1,
-            }
-        }
-    }
-}
-
-// The call that is walked instead, if there is one.
-fn demanded(stop: Stop) -> Cur
-    ensures { result ≡ demand_of stop }
-{
-    match stop {
-        Stop::Demand(h) => Cur::Holds(h),
-        Stop::Becomes(_, _) => Cur::Empty,
-        Stop::Parts(_) => Cur::Empty,
-        Stop::Fails => Cur::Empty,
-        Stop::Misfits => Cur::Empty,
-        Stop::Broken => Cur::Empty,
-        Stop::Full => Cur::Empty,
-    }
+    let h = seek::first_call(store, NodeNo(held.roots.at[0]))?;
+    store.put_link(h, 0);
+    Some(h.0 + 1)
 }
 
 // The code of the call on the stack's top, and of each call that is walked instead, at most n of them.
-pub fn drive(
-    s: &mut [u8],
-    limit: usize,
-    base: usize,
-    code: &[u8],
-    top: u16,
-    made: usize,
-    n: usize,
-) -> Ended
-    requires space { Space limit base s.old }
+pub fn drive(store: &mut Store, base: usize, code: &[u8], top: u16, made: usize, n: usize) -> Ended
+    requires space { Space store.old.limit base store.old.bytes.now }
     requires code_len_bound { length code.now ≤ code_bound }
-    requires calls { Calls limit base code.now top made s.old }
-    ensures { Driven limit base code.now n top made s.old s.new result }
+    requires calls { Calls store.old.limit base code.now top made store.old.bytes.now }
+    ensures loan { SameLoan store.old store.new }
+    ensures driven { Driven store.old.limit base code.now n top made store.old.bytes.now store.new.bytes.now result }
 {
     let mut t = top;
     let mut k = made;
-    let mut left = n;
-    while left > 0 {
-        let e = machine::calls::on_top(s, limit, base, code, t, k);
-        let regs = e.regs;
-        let stop = e.stop;
-        let next = demanded(stop);
-        let Cur::Holds(h) = next else {
-            return Ended {
-                regs: regs,
-                stop: stop,
-            };
+    for _ in 0..n {
+        let e = machine::calls::on_top(store, base, code, t, k);
+        let Stop::Demand(h) = e.stop else {
+            return e;
         };
-        store::put_link(s, limit, h, t);
+        store.put_link(h, t);
         t = h.0 + 1;
-        k = regs.made;
-        left -= 1;
+        k = e.regs.made;
     }
     Ended {
-        regs: Regs {
-            pc: 0,
-            top: t,
-            holds: false,
-            cur: NodeNo(0),
-            terms: 0,
-            vars: 0,
-            made: k,
-        },
+        regs: Regs::emptied(t, k),
         stop: Stop::Broken,
     }
 }

@@ -1,29 +1,20 @@
 // The step that ends a turn: a forward, or a copy for each alternative.
 ghost use Rattle.std.specs.Prelude.{◌≡◌, ℕ, ◌+◌, ◌*◌, ◌<◌, ◌≤◌};
+ghost use Rattle.store.specs.Whole.{SameLoan};
 ghost use Rattle.machine.specs.Tables.{term_bound};
 ghost use Rattle.copier.specs.Listed.{Clean};
 ghost use Rattle.pool.specs.Ring.{Sized};
 ghost use Rattle.turns.specs.Front.{Space};
-ghost use Rattle.turns.specs.Ends.{Capped, Stopped, Finished};
+ghost use Rattle.turns.specs.Ends.{Stopped, Finished};
 
 use crate::{Turned, What};
 use machine::Stop;
 use pool::Held;
-
-// How many nodes are made, as far as the store has so many.
-pub fn capped(made: usize, limit: usize) -> usize
-    ensures { Capped limit made result }
-{
-    if made > limit {
-        return limit;
-    }
-    made
-}
+use store::Store;
 
 // The step that the end of the code does.
 pub fn finish(
-    s: &mut [u8],
-    limit: usize,
+    store: &mut Store,
     base: usize,
     held: Held,
     made: usize,
@@ -31,62 +22,37 @@ pub fn finish(
     terms: usize,
     stop: Stop,
 ) -> Turned
-    requires space { Space limit base s.old }
-    requires made_le_limit { (made ≤ limit) × (terms ≤ term_bound) }
+    requires space { Space store.old.limit base store.old.bytes.now }
+    requires made_le_limit { (made ≤ store.old.limit) × (terms ≤ term_bound) }
     requires sized { Sized held.roots }
-    requires stopped { Stopped limit base held terms made s.old stop }
-    requires clean { Clean limit s.old }
-    ensures { Finished limit base held made top terms stop s.old s.new result }
+    requires stopped { Stopped store.old.limit base held terms made store.old.bytes.now stop }
+    requires clean { Clean store.old.limit store.old.bytes.now }
+    ensures loan { SameLoan store.old store.new }
+    ensures finished { Finished store.old.limit base held made top terms stop store.old.bytes.now store.new.bytes.now result }
 {
-    match stop {
+    let what = match stop {
         Stop::Becomes(h, r) => {
-            store::put_fwd(s, limit, h, r);
-            Turned {
+            store.put_fwd(h, r);
+            return Turned {
                 what: What::Went,
-                made: made,
-                top: top,
-            }
+                made,
+                top,
+            };
         }
-        Stop::Parts(h) => {
-            let roots = held.roots;
-            let g = alternatives::pour_all(s, limit, base, made, roots, h, terms);
-            if g.fits {
+        Stop::Parts(h) => match alternatives::pour_all(store, base, made, held.roots, h, terms) {
+            Some(made) => {
                 return Turned {
                     what: What::Split(terms),
-                    made: g.made,
+                    made,
                     top: 0,
                 };
             }
-            Turned {
-                what: What::NoneLeft,
-                made: g.made,
-                top: 0,
-            }
-        }
-        Stop::Fails => Turned {
-            what: What::Failed,
-            made: made,
-            top: 0,
+            None => What::NoneLeft,
         },
-        Stop::Misfits => Turned {
-            what: What::Misfit,
-            made: made,
-            top: 0,
-        },
-        Stop::Full => Turned {
-            what: What::NoneLeft,
-            made: made,
-            top: 0,
-        },
-        Stop::Broken => Turned {
-            what: What::Lost,
-            made: made,
-            top: 0,
-        },
-        Stop::Demand(_) => Turned {
-            what: What::Lost,
-            made: made,
-            top: 0,
-        },
-    }
+        Stop::Fails => What::Failed,
+        Stop::Misfits => What::Misfit,
+        Stop::Full => What::NoneLeft,
+        Stop::Broken | Stop::Demand(_) => What::Lost,
+    };
+    Turned { what, made, top: 0 }
 }

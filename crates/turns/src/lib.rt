@@ -7,12 +7,14 @@ pub mod calls;
 pub mod ends;
 
 ghost use Rattle.std.specs.Prelude.{◌≡◌, ℕ, ◌+◌, ◌*◌, ◌<◌, ◌≤◌, length};
+ghost use Rattle.store.specs.Whole.{SameLoan};
 ghost use Rattle.machine.specs.Tables.{code_bound};
 ghost use Rattle.copier.specs.Listed.{Clean};
 ghost use Rattle.pool.specs.Ring.{Sized};
 ghost use Rattle.turns.specs.Front.{Space, Front, value_in, Searched, TurnTaken};
 
 use pool::Held;
+use store::Store;
 
 // What comes of a turn: the computation goes on; has so many alternatives, in the scratch rows; its result is to be written; it
 // failed; it was a misfit; no node was left; the definition's own bound ran out, which never comes.
@@ -35,41 +37,26 @@ pub struct Turned {
     pub top: u16,
 }
 
-// Where a turn begins: whether there is a call, and the stack's top + 1, which is that call.
-#[derive(Clone, Copy)]
-pub struct Began {
-    pub calls: bool,
-    pub top: u16,
-}
-
 // One turn of the front computation.
-pub fn take_turn(
-    s: &mut [u8],
-    limit: usize,
-    base: usize,
-    code: &[u8],
-    made: usize,
-    held: Held,
-) -> Turned
-    requires space { Space limit base s.old }
-    requires code_len_bound { (length code.now ≤ code_bound) × (made ≤ limit) }
+pub fn take_turn(store: &mut Store, base: usize, code: &[u8], made: usize, held: Held) -> Turned
+    requires space { Space store.old.limit base store.old.bytes.now }
+    requires code_len_bound { (length code.now ≤ code_bound) × (made ≤ store.old.limit) }
     requires sized { Sized held.roots }
-    requires front { Front limit base code.now made held s.old }
-    requires searched { Searched limit made (value_in held) s.old × Clean limit s.old }
-    ensures { TurnTaken limit base code.now made held s.old s.new result }
+    requires front { Front store.old.limit base code.now made held store.old.bytes.now }
+    requires searched { Searched store.old.limit made (value_in held) store.old.bytes.now × Clean store.old.limit store.old.bytes.now }
+    ensures loan { SameLoan store.old store.new }
+    ensures taken { TurnTaken store.old.limit base code.now made held store.old.bytes.now store.new.bytes.now result }
 {
-    let b = calls::begin(s, limit, made, held);
-    let top = b.top;
-    if !b.calls {
+    let limit = store.limit;
+    let Some(top) = calls::begin(store, made, held) else {
         return Turned {
             what: What::Wrote,
-            made: made,
+            made,
             top: 0,
         };
-    }
-    let e = calls::drive(s, limit, base, code, top, made, limit);
+    };
+    let e = calls::drive(store, base, code, top, made, limit);
     let regs = e.regs;
-    let stop = e.stop;
-    let now_made = ends::capped(regs.made, limit);
-    ends::finish(s, limit, base, held, now_made, regs.top, regs.terms, stop)
+    let now_made = regs.made.min(limit);
+    ends::finish(store, base, held, now_made, regs.top, regs.terms, e.stop)
 }

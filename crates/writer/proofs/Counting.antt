@@ -4,9 +4,9 @@
 use Prim.Native.Nat.{ℕ, zero, suc, ◌+◌, ◌-◌, ◌*◌, ◌≤◌, ◌<◌}
 use native.Mathlib.Omega.{arith}
 use mathlib.Core.Path.{◌≡◌, refl, sym, ◌∙◌, subst}
-use mathlib.Core.List.{List, [], ◌∷◌, ◌++◌, Memᴰ}
-use lib.ListN.{length, get_or, take, drop, length-take, drop_of_length-le}
-use lib.Seq.{drop-cons, get_or-take, length-take-le}
+use mathlib.Core.List.{List, [], ◌∷◌, ◌++◌}
+use lib.ListN.{length, get_or, drop, drop_of_length-le}
+use lib.Seq.{drop-cons}
 use native.Mathlib.Numerals.{add-one}
 use borrow.Author.Tests.{le-leb, lt-leb}
 use Rattle.mem.specs.Words.{words}
@@ -20,7 +20,7 @@ use Rattle.writer.specs.Written.{Within}
 use Rattle.writer.specs.declared.Met.{Met}
 use Rattle.writer.specs.declared.Met.TheVariants.{Made, Free, Nothing}
 use Rattle.writer.specs.declared.Turn.{Turn}
-use Rattle.writer.specs.declared.Fit.TheVariants.{Fits, Over}
+use Rattle.std.specs.Prelude.{Some, None}
 use Rattle.writer.proofs.Walking.{few-args, step-stands, visit-stands}
 use Rattle.writer.proofs.Turning.{top-deep}
 use Rattle.writer.proofs.Owing.{step-owes, visit-owes, step-dues, visit-dues, step-steps, after_none}
@@ -101,25 +101,22 @@ dues-none L zero g l h = refl
 dues-none L (suc d) g l h = absurd (omega arith)
 
 -- where the roots are read, each root is
-pub reads_at : {g : Graph} (at : List ℕ) (n i : ℕ) → i < n → n ≤ length at → Reads g (take n at) → Read g (get_or at i 0)
-reads_at at n i h q R = record { own = R.own; all = R.all; part = R.part; handle = R.handle (get_or at i 0) (member at n i h q) }
-  where
-    member : (at : List ℕ) (n i : ℕ) → i < n → n ≤ length at → Memᴰ (get_or at i 0) (take n at)
-    member at n i h q = subst (λ (k : ℕ). Memᴰ k (take n at)) (get_or-take n at i 0 h) (mem-at (take n at) i (omega (arith, length-take-le n at q)))
+pub reads_at : {g : Graph} (ks : List ℕ) (i : ℕ) → i < length ks → Reads g ks → Read g (get_or ks i 0)
+reads_at ks i h R = record { own = R.own; all = R.all; part = R.part; handle = R.handle (get_or ks i 0) (mem-at ks i h) }
 
 -- the terms from the i-th on
-pub each_more : (L : ℕ) (g : Graph) (at : List ℕ) (n i : ℕ) → i < n → n ≤ length at → write_each L g (drop i (take n at)) ≡ (write L g [] (get_or at i 0)).1 ++ write_each L g (drop (i + 1) (take n at))
+pub each_more : (L : ℕ) (g : Graph) (ks : List ℕ) (i : ℕ) → i < length ks → write_each L g (drop i ks) ≡ (write L g [] (get_or ks i 0)).1 ++ write_each L g (drop (i + 1) ks)
 unfolding write_each
-each_more L g at n i h q = rw (drop-cons (take n at) i 0 (omega (arith, length-take-le n at q)), get_or-take n at i 0 h, add-one)
+each_more L g ks i h = rw (drop-cons ks i 0 h, add-one)
 
-pub each-done : (L : ℕ) (g : Graph) (at : List ℕ) (n i : ℕ) → n ≤ i → write_each L g (drop i (take n at)) ≡ []
+pub each-done : (L : ℕ) (g : Graph) (ks : List ℕ) (i : ℕ) → length ks ≤ i → write_each L g (drop i ks) ≡ []
 unfolding write_each
-each-done L g at n i h = rw (drop_of_length-le (take n at) {i = i} (simp length-take (omega arith)))
+each-done L g ks i h = rw (drop_of_length-le ks {i = i} h)
 
-pub fits-over : (room n : ℕ) → room < n → Over ≡ fits room n
+pub fits-over : (room n : ℕ) → room < n → None ≡ fits room n
 unfolding fits pick
 fits-over room n h = rw (lt-leb n room h)
 
-pub fits_in : (room n m : ℕ) → n ≡ m → n ≤ room → Fits n ≡ fits room m
+pub fits_in : (room n m : ℕ) → n ≡ m → n ≤ room → Some n ≡ fits room m
 unfolding fits pick
 fits_in room n m e h = rw (← e, le-leb n room h)

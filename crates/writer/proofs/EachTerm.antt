@@ -30,25 +30,21 @@ module _ (L h : ℕ) (s s1 : List ℕ) (t : Turn) (R : Read (graph_of L s) h) (T
       let q : sum + length (write L (graph_of L s) [] h).1 ≡ sum + w + dues L (graph_of L s) (stack t.depth (frames_of L s1)) = omega arith in
       rw (q, ← T.framed.kept.graph) C
 
--- at most nine roots
-pub nine : (n m : ℕ) → n ≤ 9 → m ≡ 9 → n ≤ m
-nine n m h e = omega arith
-
 -- the sizes of the terms
-pub read-now : (L n i : ℕ) (s0 s ks : List ℕ) → Kept L s0 s → i < n → n ≤ length ks → Reads (graph_of L s0) (take n ks) → Read (graph_of L s) (get_or ks i 0)
-read-now L n i s0 s ks K h q R = rw K.graph (reads_at ks n i h q R)
+pub read-now : (L i : ℕ) (s0 s ks : List ℕ) → Kept L s0 s → i < length ks → Reads (graph_of L s0) ks → Read (graph_of L s) (get_or ks i 0)
+read-now L i s0 s ks K h R = rw K.graph (reads_at ks i h R)
 
-pub size-on : (L n i sum room r X : ℕ) (s0 s ks : List ℕ) → Kept L s0 s → i < n → n ≤ length ks → sum + length (write_each L (graph_of L s0) (drop i (take n ks))) ≡ X
-    → Counted room (sum + length (write L (graph_of L s) [] (get_or ks i 0)).1) r → (r ≤ X) × (r ≤ room → r + length (write_each L (graph_of L s0) (drop (i + 1) (take n ks))) ≡ X)
-size-on L n i sum room r X s0 s ks K h q e C =
+pub size-on : (L i sum room r X : ℕ) (s0 s ks : List ℕ) → Kept L s0 s → i < length ks → sum + length (write_each L (graph_of L s0) (drop i ks)) ≡ X
+    → Counted room (sum + length (write L (graph_of L s) [] (get_or ks i 0)).1) r → (r ≤ X) × (r ≤ room → r + length (write_each L (graph_of L s0) (drop (i + 1) ks)) ≡ X)
+size-on L i sum room r X s0 s ks K h e C =
     let g = graph_of L s0 in
     let C' : Counted room (sum + length (write L g [] (get_or ks i 0)).1) r = rw K.graph at C in
-    let a : length (write_each L g (drop i (take n ks))) ≡ length (write L g [] (get_or ks i 0)).1 + length (write_each L g (drop (i + 1) (take n ks))) = ap length (each_more L g ks n i h q) ∙ length-append (write L g [] (get_or ks i 0)).1 (write_each L g (drop (i + 1) (take n ks))) in
+    let a : length (write_each L g (drop i ks)) ≡ length (write L g [] (get_or ks i 0)).1 + length (write_each L g (drop (i + 1) ks)) = ap length (each_more L g ks i h) ∙ length-append (write L g [] (get_or ks i 0)).1 (write_each L g (drop (i + 1) ks)) in
     let m = C'.most in
     (omega arith, λ p. (let x = C'.exact p in omega arith))
 
-pub size-all : (L n i sum X : ℕ) (g : Graph) (ks : List ℕ) → n ≤ i → sum + length (write_each L g (drop i (take n ks))) ≡ X → sum ≡ X
-size-all L n i sum X g ks h e = let a = ap length (each-done L g ks n i h) in omega arith
+pub size-all : (L i sum X : ℕ) (g : Graph) (ks : List ℕ) → length ks ≤ i → sum + length (write_each L g (drop i ks)) ≡ X → sum ≡ X
+size-all L i sum X g ks h e = let a = ap length (each-done L g ks i h) in omega arith
 
 -- a term's bytes
 module _ (L h seen : ℕ) (s s1 out : List ℕ) (t : Turn) (R : Read (graph_of L s) h) (T : Turned L s s1 t (visited (graph_of L s) h (stack 0 (frames_of L s)))) (fit : length (write L (graph_of L s) (seen_of L s seen) h).1 ≤ length out) where
@@ -96,20 +92,20 @@ over-lent l ys bs k h e =
     rw (b, append-nil, c, ← append_assoc (take k l) bs (drop (k + length bs) l)) (sym (sets-eq bs l k h))
 
 -- the bytes of the terms
-module _ (L n i at : ℕ) (s0 s s1 out0 out ys ks : List ℕ) (v p : ℕ) (K : Kept L s0 s) (h : i < n) (q : n ≤ length ks)
-    (all : over out at (write_each L (graph_of L s0) (drop i (take n ks))) ≡ over out0 0 (write_each L (graph_of L s0) (take n ks)))
-    (sum : at + length (write_each L (graph_of L s0) (drop i (take n ks))) ≡ length (write_each L (graph_of L s0) (take n ks)))
-    (fit : length (write_each L (graph_of L s0) (take n ks)) ≤ length out) where
+module _ (L i at : ℕ) (s0 s s1 out0 out ys ks : List ℕ) (v p : ℕ) (K : Kept L s0 s) (h : i < length ks)
+    (all : over out at (write_each L (graph_of L s0) (drop i ks)) ≡ over out0 0 (write_each L (graph_of L s0) ks))
+    (sum : at + length (write_each L (graph_of L s0) (drop i ks)) ≡ length (write_each L (graph_of L s0) ks))
+    (fit : length (write_each L (graph_of L s0) ks) ≤ length out) where
   abbrev here : List ℕ
   here = (write L (graph_of L s0) [] (get_or ks i 0)).1
 
   abbrev left : List ℕ
-  left = write_each L (graph_of L s0) (drop (i + 1) (take n ks))
+  left = write_each L (graph_of L s0) (drop (i + 1) ks)
 
-  more : write_each L (graph_of L s0) (drop i (take n ks)) ≡ here ++ left
-  more = each_more L (graph_of L s0) ks n i h q
+  more : write_each L (graph_of L s0) (drop i ks) ≡ here ++ left
+  more = each_more L (graph_of L s0) ks i h
 
-  more-length : at + (length here + length left) ≡ length (write_each L (graph_of L s0) (take n ks))
+  more-length : at + (length here + length left) ≡ length (write_each L (graph_of L s0) ks)
   more-length = let a = ap length more ∙ length-append here left in omega arith
 
   pub each_fits : length (write L (graph_of L s) (seen_of L s 0) (get_or ks i 0)).1 ≤ length (take (length out - at) (drop at out))
@@ -131,19 +127,19 @@ module _ (L n i at : ℕ) (s0 s s1 out0 out ys ks : List ℕ) (v p : ℕ) (K : K
     pub each-out : out2 ≡ over out at here
     each-out = over-lent out ys here at (let a = more-length in omega arith) (ap (λ (E : End). E.out) W.is ∙ ap (over (take (length out - at) (drop at out)) 0) bytes)
 
-    pub each_all : over out2 (at + p) left ≡ over out0 0 (write_each L (graph_of L s0) (take n ks))
+    pub each_all : over out2 (at + p) left ≡ over out0 0 (write_each L (graph_of L s0) ks)
     each_all = rw (each-out, each_at) (sym (over-then here left out at) ∙ ap (over out at) (sym more) ∙ all)
 
-    pub each-sum : at + p + length left ≡ length (write_each L (graph_of L s0) (take n ks))
+    pub each-sum : at + p + length left ≡ length (write_each L (graph_of L s0) ks)
     each-sum = let a = more-length in let b = each_at in omega arith
 
     pub each_long : length out2 ≡ length out
     each_long = ap length each-out ∙ length_over out at here
 
-pub write-all : (L n i at : ℕ) (g : Graph) (out0 out ks : List ℕ) → n ≤ i → over out at (write_each L g (drop i (take n ks))) ≡ over out0 0 (write_each L g (take n ks)) → length (write_each L g (take n ks)) ≤ length out0
-    → out ≡ write_each L g (take n ks) ++ drop (length (write_each L g (take n ks))) out0
+pub write-all : (L i at : ℕ) (g : Graph) (out0 out ks : List ℕ) → length ks ≤ i → over out at (write_each L g (drop i ks)) ≡ over out0 0 (write_each L g ks) → length (write_each L g ks) ≤ length out0
+    → out ≡ write_each L g ks ++ drop (length (write_each L g ks)) out0
 unfolding over
-write-all L n i at g out0 out ks h e fit =
-    let w = write_each L g (take n ks) in
-    let a : out ≡ sets out0 0 w = rw (each-done L g ks n i h) at e in
+write-all L i at g out0 out ks h e fit =
+    let w = write_each L g ks in
+    let a : out ≡ sets out0 0 w = rw (each-done L g ks i h) at e in
     a ∙ sets-eq w out0 0 (omega arith) ∙ ap (λ (j : ℕ). w ++ drop j out0) (zero-add (length w))

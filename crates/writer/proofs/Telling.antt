@@ -11,11 +11,12 @@ use mathlib.Core.Logic.{◌⊎◌, inl, inr, ◌≢◌}
 use mathlib.Core.Bool.{Bool, true, false}
 use mathlib.Core.Option.{Option, none, some}
 use mathlib.Core.List.Memᴰ
-use mathlib.Core.List.{List, [], ◌∷◌, ◌++◌, Memᴰ}
-use lib.ListN.{length, get_or, set, length-append, get_or-replicate}
-use lib.Seq.{sets, length-sets, take-suc-set, length-take-le, get_or-set_same, get_or-set_other}
+use mathlib.Core.List.{List, [], ◌∷◌, ◌++◌, append_assoc, Memᴰ}
+use lib.ListN.{length, get_or, take, drop, set, length-append, length-set, get_or-replicate}
+use lib.Seq.{sets, length-sets, sets-eq, drop-drop, take-suc-set, length-take-le, get_or-set_same, get_or-set_other}
 use lib.Dec.{eqb}
 use borrow.Author.Tests.{eq-eqb, ne_eqb}
+use borrow.Rule.Slice.PartMut.{put_mid}
 use Rattle.mem.specs.Words.{words}
 use Rattle.heap.specs.Graph.{index_of, variable}
 use Rattle.heap.specs.Place.{Distinct}
@@ -23,22 +24,24 @@ use Rattle.heap.proofs.Laws.Few.{few}
 use Rattle.heap.proofs.Laws.Shape.{index_of-none}
 use Rattle.store.specs.Regions.{list_of, places_of, Memory, Did, set_list, set_place}
 use Rattle.store.proofs.Writes.{length-list, length-places}
-use Rattle.writer.specs.Walk.{weigh}
 use Rattle.writer.specs.Owes.{after, numbered, tells}
-use Rattle.writer.specs.Written.{over, ends, seen_of, place_of, Table, Clean, Within, Named, Told}
+use Rattle.writer.specs.Written.{over, ends, seen_of, place_of, Table, Clean, Named, Told}
 use Rattle.writer.specs.declared.Met.{Met}
 use Rattle.writer.specs.declared.Met.TheVariants.{Made, Free, Nothing}
 use Rattle.book.specs.declared.ConNo.{ConNo}
 use Rattle.store.specs.declared.NodeNo.{NodeNo}
 use Rattle.writer.proofs.Turning.{kept-none}
 
--- bytes over a list
-pub free_bytes : (l : List ℕ) (k n : ℕ) → n < 65536 → set (set (set l k 12) (k + 1) (n % 256)) (k + 2) (n / 256) ≡ over l k (variable n)
+-- bytes over a list: a part of it, up to e, replaced by bs
+pub over-part : (l ys bs : List ℕ) (k e : ℕ) → ys ≡ bs → e ≡ k + length bs → e ≤ length l → put_mid k (e - k) l ys ≡ over l k bs
+unfolding over
+over-part l ys bs k e q f h =
+    let a : e - k ≡ length bs = omega arith in
+    rw (q, a, drop-drop, ← append_assoc (take k l) bs (drop (k + length bs) l)) (sym (sets-eq bs l k (omega arith)))
+
+pub free_bytes : (l ys : List ℕ) (k n : ℕ) → k + 3 ≤ length l → ys ≡ n % 256 ∷ n / 256 % 256 ∷ [] → put_mid (k + 1) (k + 3 - (k + 1)) (set l k 12) ys ≡ over l k (variable n)
 unfolding over variable
-free_bytes l k n h =
-    let e : n / 256 % 256 ≡ n / 256 = omega arith in
-    let f : k + 2 ≡ suc (suc k) = omega arith in
-    rw (e, f, add-one)
+free_bytes l ys k n h q = over-part (set l k 12) ys (n % 256 ∷ n / 256 % 256 ∷ []) (k + 1) (k + 3) q (omega arith) (simp length-set h) ∙ rw add-one
 
 pub over-then : (a b l : List ℕ) (k : ℕ) → over l k (a ++ b) ≡ over (over l k a) (k + length a) b
 unfolding over
@@ -65,8 +68,8 @@ index-new k [] e = rw (eq-eqb k k refl, index_of)
 index-new k (x ∷ l) e = go (index-new k l) (eqb k x) (index_of k l) refl refl
   where
     go : (index_of k l ≡ none → index_of k (l ++ k ∷ []) ≡ some (length l)) → (b : Bool) (o : Option ℕ) → eqb k x ≡ b → index_of k l ≡ o → index_of k (x ∷ (l ++ k ∷ [])) ≡ some (suc (length l))
-    go ih true o p q = let u : ◌≡◌ {A = Option ℕ} (some 0) none = rw (p, index_of) at e in let z : ◌≡◌ {A = ℕ} 0 1 = cc in absurd (omega arith)
-    go ih false (some j) p q = let u : some (suc j) ≡ none = rw (p, q, index_of) at e in let z : ◌≡◌ {A = ℕ} 0 1 = cc in absurd (omega arith)
+    go ih true o p q = let u : ◌≡◌ {A = Option ℕ} (some 0) none = rw (p, index_of) at e in cc
+    go ih false (some j) p q = let u : some (suc j) ≡ none = rw (p, q, index_of) at e in cc
     go ih false none p q = rw (p, ih q, index_of)
 
 index-other : (j k : ℕ) (l : List ℕ) → j ≢ k → index_of j (l ++ k ∷ []) ≡ index_of j l
@@ -186,12 +189,6 @@ unfolding seen_of
 seen_none L s = refl
 
 -- what is told
-pub weigh-at : (m m' : Met) (at n : ℕ) → m ≡ m' → at + weigh m ≤ n → at + weigh m' ≤ n
-weigh-at m m' at n e h = rw e at h
-
-pub within-at : (L : ℕ) (m m' : Met) → m ≡ m' → Within L m → Within L m'
-within-at L m m' e h = rw e at h
-
 module _ (L : ℕ) (s out : List ℕ) (seen at : ℕ) (m : Met) where
   pub told-made : (c : ConNo) (out' : List ℕ) → m ≡ Made c → Table L s seen → out' ≡ over out at (tells [] (Made c)).1 → Told L s s out out' at (tells (seen_of L s seen) m) seen (at + 2)
   unfolding tells

@@ -9,10 +9,11 @@ use mathlib.Core.List.{List, ◌∷◌}
 use lib.ListN.{length, get_or, set}
 use borrow.Author.Tests.{lt-ltb, le-ltb}
 use Rattle.book.specs.Syntax.{con, fun}
+use Rattle.book.specs.declared.ConNo.{ConNo}
 use Rattle.mem.specs.Words.{words}
 use Rattle.heap.specs.Graph.{Graph, Node, cell, var, fwd, node, follow, look, args}
 use Rattle.store.specs.Rows.{seen}
-use Rattle.store.specs.Regions.{Room, graph_of, frames_of, Memory, Did, with_frames, set_frame, set_next, Frame, frame_at, stack}
+use Rattle.store.specs.Regions.{graph_of, frames_of, Memory, Did, with_frames, set_frame, set_next, Frame, frame_at, stack}
 use Rattle.store.specs.declared.Seen.{Seen}
 use Rattle.store.specs.declared.Seen.TheVariants.{Var, Con, Call, Fwd}
 use Rattle.store.proofs.Laws.{length-graph, count_of, count-seen}
@@ -28,9 +29,6 @@ kept-none L s = record { graph = refl; marks = refl; links = refl; rest = refl; 
 
 pub kept_then : {L : ℕ} {s s' s'' : List ℕ} → Kept L s s' → Kept L s' s'' → Kept L s s''
 kept_then a b = record { graph = b.graph ∙ a.graph; marks = b.marks ∙ a.marks; links = b.links ∙ a.links; rest = b.rest ∙ a.rest; long = b.long ∙ a.long }
-
-pub room-kept : {L : ℕ} {s s' : List ℕ} → Kept L s s' → Room L s → Room L s'
-room-kept k r = rw k.long r
 
 pub framed-none : (L : ℕ) (s : List ℕ) → Framed L s s
 framed-none L s = record { kept = kept-none L s; list = refl; places = refl }
@@ -52,8 +50,8 @@ framed-did L s s' F d = record {
 }
 
 -- how many arguments, by what is seen
-pub counted : (k k' : Seen) (x : Node) → k ≡ seen x → k ≡ k' → count_of k' ≡ length (args x)
-counted k k' x e q = ap count_of (sym q ∙ e) ∙ count-seen x
+pub counted : (k : Seen) (x : Node) (n : ℕ) → k ≡ seen x → n ≡ count_of k → n ≡ length (args x)
+counted k x n e q = q ∙ ap count_of e ∙ count-seen x
 
 -- a visit by what is seen
 unfoldable pub visit_seen : Seen → ℕ → List Frame → Met × List Frame
@@ -61,6 +59,13 @@ visit_seen Var n fs = (Free (record { 0 = n }), fs)
 visit_seen (Con c k) n fs = (Made c, record { node = n; next = 0 } ∷ fs)
 visit_seen (Call f k) n fs = (Nothing, fs)
 visit_seen (Fwd t) n fs = (Nothing, fs)
+
+pub seen_other : (k : Seen) (n : ℕ) (fs : List Frame) → (k ≡ Var → ⊥) → ((c : ConNo) (j : ℕ) → k ≡ Con c j → ⊥) → visit_seen k n fs ≡ (Nothing, fs)
+unfolding visit_seen
+seen_other Var n fs a b = absurd (a refl)
+seen_other (Con c j) n fs a b = absurd (b c j refl)
+seen_other (Call f j) n fs a b = refl
+seen_other (Fwd t) n fs a b = refl
 
 seen-visit : (x : Node) (n : ℕ) (fs : List Frame) → visit_seen (seen x) n fs ≡ visit_node x n fs
 unfolding visit_seen visit_node seen

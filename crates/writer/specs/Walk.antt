@@ -1,22 +1,17 @@
 -- The walk over a term, records in preorder: what is visited, one step of a stack of frames, and what the stack stands on.
--- Here, in order: the roots; what a walk may rely on; a visit and a step; what stays.
+-- Here, in order: what a walk may rely on; a visit and a step; what stays.
 -- Not here: what the walk owes (Owes), what is written (Written).
 -- Assumes nothing.
-use Rattle.std.specs.Prelude.{ℕ, suc, ◌+◌, ◌≤◌, ◌≡◌, Bool, true, false, length, get_or, take, ltb}
+use Rattle.std.specs.Prelude.{ℕ, suc, ◌+◌, ◌≤◌, ◌≡◌, Bool, true, false, length, get_or, ltb}
 use mathlib.Core.List.{List, [], ◌∷◌, Memᴰ}
 use Rattle.book.specs.Syntax.{con, fun}
 use Rattle.mem.specs.Words.{words}
 use Rattle.heap.specs.Graph.{Graph, Node, cell, var, fwd, node, follow, look, args}
 use Rattle.store.specs.Regions.{graph_of, marks_of, links_of, list_of, places_of, frames_of, rest_of, Frame, stack}
 use Rattle.standing.specs.Part.{Part, Handle}
-use Rattle.writer.specs.declared.Roots.{Roots}
 use Rattle.writer.specs.declared.Met.{Met}
 use Rattle.writer.specs.declared.Met.TheVariants.{Made, Free, Nothing}
 use Rattle.writer.specs.declared.Turn.{Turn}
-
--- the handles of the terms
-abbrev pub roots_in : Roots → List ℕ
-roots_in r = take r.n r.at
 
 -- the handles are read in a part of the graph that has no cycle; and one handle is
 pub record Reads (g : Graph) (ks : List ℕ) : Type 0 where

@@ -2,20 +2,22 @@
 // Here, in order: what the frames owe; a term; the terms.
 ghost use Rattle.std.specs.Prelude.{◌≡◌, [], ◌+◌, ◌≤◌, length};
 ghost use Rattle.heap.specs.Graph as g;
-ghost use Rattle.store.specs.Regions.{Room, graph_of, frames_of, stack};
-ghost use Rattle.writer.specs.Walk.{roots_in, Reads, Read, Stood, Framed};
+ghost use Rattle.store.specs.Regions.{stack};
+ghost use Rattle.store.specs.Whole.{graph, frames, SameLoan};
+ghost use Rattle.store.specs.Roots.{roots_of};
+ghost use Rattle.writer.specs.Walk.{Reads, Read, Stood, Framed};
 ghost use Rattle.writer.specs.Owes.{dues, Counted, fits};
 
 use crate::walk::{step, visit, weight};
-use crate::{Fit, Roots};
-use store::NodeNo;
+use store::{NodeNo, Roots, Store};
 
 // The bytes that the frames owe are added to the sum, until it passes the room.
-fn tally(s: &mut [u8], limit: usize, depth: usize, sum: usize, room: usize) -> usize
-    requires room { Room limit s.old }
-    requires stood { Stood (graph_of limit s.old) (stack depth (frames_of limit s.old)) }
+fn tally(store: &mut Store, depth: usize, sum: usize, room: usize) -> usize
+    requires stood { Stood (graph store.old) (stack depth (frames store.old)) }
     requires room_bound { (room ≤ 65536) × (sum ≤ room + 3) }
-    ensures { Counted room (sum + dues limit (graph_of limit s.old) (stack depth (frames_of limit s.old))) result × Framed limit s.old s.new }
+    ensures loan { SameLoan store.old store.new }
+    ensures framed { Framed store.old.limit store.old.bytes.now store.new.bytes.now }
+    ensures counted { Counted room (sum + dues store.old.limit (graph store.old) (stack depth (frames store.old))) result }
 {
     let mut d = depth;
     let mut n = sum;
@@ -23,44 +25,40 @@ fn tally(s: &mut [u8], limit: usize, depth: usize, sum: usize, room: usize) -> u
         if n > room {
             return n;
         }
-        let t = step(s, limit, d - 1);
-        let m = t.met;
-        n += weight(m);
+        let t = step(store, d - 1);
+        n += weight(t.met);
         d = t.depth;
     }
     n
 }
 
 // The bytes of a term are added to the sum, until it passes the room.
-fn size_term(s: &mut [u8], limit: usize, h: NodeNo, sum: usize, room: usize) -> usize
-    requires room { Room limit s.old }
-    requires read { Read (graph_of limit s.old) h.0 }
+fn size_term(store: &mut Store, h: NodeNo, sum: usize, room: usize) -> usize
+    requires read { Read (graph store.old) h.0 }
     requires room_bound { (room ≤ 65536) × (sum ≤ room) }
-    ensures { Counted room (sum + length (g.write limit (graph_of limit s.old) [] h.0).1) result × Framed limit s.old s.new }
+    ensures loan { SameLoan store.old store.new }
+    ensures framed { Framed store.old.limit store.old.bytes.now store.new.bytes.now }
+    ensures counted { Counted room (sum + length (g.write store.old.limit (graph store.old) [] h.0).1) result }
 {
-    let t = visit(s, limit, 0, h);
-    let m = t.met;
-    let d = t.depth;
-    let w = weight(m);
-    tally(s, limit, d, sum + w, room)
+    let t = visit(store, 0, h);
+    let w = weight(t.met);
+    tally(store, t.depth, sum + w, room)
 }
 
 // How many bytes the terms have, if they fit into the room.
-pub fn size(s: &mut [u8], limit: usize, roots: Roots, room: usize) -> Fit
-    requires room { Room limit s.old }
-    requires reads { Reads (graph_of limit s.old) (roots_in roots) }
+pub fn size(store: &mut Store, roots: Roots, room: usize) -> Option<usize>
+    requires reads { Reads (graph store.old) (roots_of roots) }
     requires n_bound { (roots.n ≤ 9) × (room ≤ 65536) }
-    ensures { (result ≡ fits room (length (g.write_each limit (graph_of limit s.old) (roots_in roots)))) × Framed limit s.old s.new }
+    ensures loan { SameLoan store.old store.new }
+    ensures framed { Framed store.old.limit store.old.bytes.now store.new.bytes.now }
+    ensures size { result ≡ fits room (length (g.write_each store.old.limit (graph store.old) (roots_of roots))) }
 {
-    let ks = roots.at;
-    let n = roots.n;
     let mut sum = 0;
-    for i in 0..n {
-        let h = NodeNo(ks[i]);
-        sum = size_term(s, limit, h, sum, room);
+    for h in &roots.at[..roots.n] {
+        sum = size_term(store, NodeNo(*h), sum, room);
         if sum > room {
-            return Fit::Over;
+            return None;
         }
     }
-    Fit::Fits(sum)
+    Some(sum)
 }

@@ -1,29 +1,40 @@
 use native.Mathlib.Omega.{arith}
 use borrow.Author.Rules.{rules}
-use mathlib.Core.Path.{◌≡◌, refl}
-use Rattle.alternatives.proofs.Rounds.{rounds-start, rounds-opens, rounds-next, rounds-full, rounds-done, refused, passed}
+use mathlib.Core.Path.{◌≡◌}
+use lib.ListN.{length}
+use Rattle.store.proofs.Became.{loan_same, loan_then}
+use Rattle.alternatives.proofs.Rounds.{rounds-start, rounds-opens, rounds-next, rounds-full, rounds-done}
 use Rattle.alternatives.proofs.pour_all.Goals as goal
 
 pub loop-i-init : goal.loop-i-init
-loop-i-init c = (rounds-start _ _ _ _ _ _ _ c.requires.divides c.requires.made_le_limit.0 c.requires.clean, omega arith, refl)
+loop-i-init c = record { loan = loan_same; rounds = rounds-start _ _ _ _ _ _ _ c.requires.divides c.requires.made_le_limit.0 c.requires.clean }
 
-pub get_rest-k-requires : goal.get_rest-k-requires
-get_rest-k-requires c = let l = c.loop-i.invariant.0.aside.long in record { limit_le_node_bound = c.requires.space.0; k_bound = (omega arith, omega (arith, l)) }
-
-pub pour_one-p-requires : goal.pour_one-p-requires
-pour_one-p-requires c = let i = c.loop-i.invariant in let l = i.0.aside.long in record { space = (c.requires.space.0, c.requires.space.1, omega (arith, l)); made_le_limit = (i.0.more.1, omega arith); sized = c.requires.sized; opens = rounds-opens _ _ _ _ _ _ _ c.requires.space c.requires.made_le_limit.1 c.requires.sized (let g = c.well_formed in search (rules, g)) i.0 _ c.loop-i-test.true c.get_rest-k.ensures; clean = i.0.aside.clean }
-
-pub returns-then-not-p : goal.returns-then-not-p
-returns-then-not-p c = let i = c.loop-i.invariant in rounds-full _ _ _ _ _ _ _ c.requires.space c.requires.made_le_limit.1 c.requires.sized (let g = c.well_formed in search (rules, g)) i.0 _ _ _ c.loop-i-test.true c.get_rest-k.ensures c.pour_one-p.ensures (refused _ c.if-not-p.true)
-
-pub overflow_add-i : goal.overflow_add-i
-overflow_add-i c = omega arith
-
-pub loop-i-smaller : goal.loop-i-smaller
-loop-i-smaller c = omega arith
+pub pour_one-requires-clause-opens : goal.pour_one-requires-clause-opens
+pour_one-requires-clause-opens c =
+    let nine : length c.args.roots.at ≡ 9 = search rules in
+    let i = c.loop-i.invariant in
+    rw i.loan.limit (rounds-opens _ _ _ _ _ _ _ c.requires.space c.requires.made_le_limit.1 c.requires.sized nine i.rounds _ c.loop-i-test.true (rw i.loan.limit at c.rest-k.ensures))
 
 pub loop-i-preserved : goal.loop-i-preserved
-loop-i-preserved c = let i = c.loop-i.invariant in (rounds-next _ _ _ _ _ _ _ c.requires.space c.requires.made_le_limit.1 c.requires.sized (let g = c.well_formed in search (rules, g)) i.0 _ _ _ c.loop-i-test.true c.get_rest-k.ensures c.pour_one-p.ensures (passed _ c.if-not-p.false), omega arith, search rules)
+loop-i-preserved c =
+    let nine : length c.args.roots.at ≡ 9 = search rules in
+    let i = c.loop-i.invariant in
+    record {
+      loan = loan_then i.loan c.in_ok-now_made.ensures.loan;
+      rounds = rounds-next _ _ _ _ _ _ _ c.requires.space c.requires.made_le_limit.1 c.requires.sized nine i.rounds _ _ c.loop-i-test.true (rw i.loan.limit at c.rest-k.ensures) _ (rw i.loan.limit at c.in_ok-now_made.ensures.poured);
+    }
+
+pub returns-in_err-now_made : goal.returns-in_err-now_made
+returns-in_err-now_made c =
+    let nine : length c.args.roots.at ≡ 9 = search rules in
+    let i = c.loop-i.invariant in
+    record {
+      loan = loan_then i.loan c.in_err-now_made.ensures.loan;
+      poured = rw c.from_residual.ensures (rounds-full _ _ _ _ _ _ _ c.requires.space c.requires.made_le_limit.1 c.requires.sized nine i.rounds _ _ c.loop-i-test.true (rw i.loan.limit at c.rest-k.ensures) (rw i.loan.limit at c.in_err-now_made.ensures.poured));
+    }
 
 pub returns : goal.returns
-returns c = let i = c.loop-i.invariant in let e : c.loop-i.i ≡ c.args.count = omega arith in rounds-done _ _ _ _ _ _ _ c.requires.space c.requires.made_le_limit.1 c.requires.sized (let g = c.well_formed in search (rules, g)) i.0 e
+returns c =
+    let nine : length c.args.roots.at ≡ 9 = search rules in
+    let i = c.loop-i.invariant in
+    record { loan = i.loan; poured = rounds-done _ _ _ _ _ _ _ c.requires.space c.requires.made_le_limit.1 c.requires.sized nine i.rounds (omega arith) }

@@ -1,11 +1,11 @@
-use Prim.Native.Nat.{◌≤◌, ◌-◌}
-use mathlib.Core.Path.{◌≡◌}
-use lib.ListN.{length}
+use Rattle.store.specs.Whole.{SameLoan}
 use Rattle.alternatives.proofs.Rounds.{Rounds}
 use Rattle.alternatives.proofs.pour_all.Given as goal
 
 abbrev pub invariant-loop-i : goal.invariant-loop-i
-invariant-loop-i l = Rounds l.limit l.base l.made l.roots l.h.0 l.count l.initial.s l.s l.now_made l.i × (l.i ≤ l.count) × (length l.s ≡ length l.initial.s)
-
-abbrev pub decreases-loop-i : goal.decreases-loop-i
-decreases-loop-i l = l.count - l.i
+invariant-loop-i l =
+    let st = l.initial.store in
+    record {
+      loan : SameLoan st l.store;
+      rounds : Rounds st.limit l.base l.made l.roots l.h.0 l.count st.bytes.now l.store.bytes.now l.now_made l.i;
+    }

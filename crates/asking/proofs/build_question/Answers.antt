@@ -1,6 +1,6 @@
+use Rattle.store.proofs.Became.{loan_same, loan_then}
 use native.Mathlib.Omega.{arith}
-use mathlib.Core.Path.{ap, ◌∙◌}
-use Prim.Native.Nat.{suc}
+use mathlib.Core.Path.{refl}
 use Rattle.asking.proofs.Answers.{asked-full, asked-made, asked-still, asked-size}
 use Rattle.asking.proofs.build_question.Goals as goal
 
@@ -13,31 +13,28 @@ overflow_sub-n c = let z = asked-size c.requires.asked_of in omega arith
 pub count_cells-cells-requires : goal.count_cells-cells-requires
 count_cells-cells-requires c = let z = asked-size c.requires.asked_of in omega arith
 
-pub overflow_add-vars : goal.overflow_add-vars
-overflow_add-vars c = let z = asked-size c.requires.asked_of in omega arith
+pub returns-then-store-vars : goal.returns-then-store-vars
+returns-then-store-vars c = let z = asked-size c.requires.asked_of in record { loan = loan_same; asked = λ x. asked-full x _ z.0 (omega arith) }
 
-pub first_roots-none-requires : goal.first_roots-none-requires
-first_roots-none-requires c = let z = asked-size c.requires.asked_of in omega arith
+pub walk_back-w-requires-clause-q_len : goal.walk_back-w-requires-clause-q_len
+walk_back-w-requires-clause-q_len c = let z = asked-size c.requires.asked_of in (z.0, refl, omega arith)
 
-pub returns-then-limit-vars : goal.returns-then-limit-vars
-returns-then-limit-vars c = let z = asked-size c.requires.asked_of in λ x. asked-full x _ _ z.0 (omega arith) (c.first_roots-none.ensures.0 ∙ ap suc c.wide-vars.ensures)
-
-pub walk_back-w-requires : goal.walk_back-w-requires
-walk_back-w-requires c = let z = asked-size c.requires.asked_of in
+pub rest-value-requires : goal.rest-value-requires
+rest-value-requires c =
     let v = c.put_vars.ensures in
-    let l = (v.beside 0 0).long in
-    record { space = (c.requires.space.0, c.requires.space.1, omega arith); asked_of = asked-still v.rest c.requires.asked_of; q_len = (z.0, c.wide-vars.ensures, omega arith) }
+    let w = c.walk_back-w.ensures in
+    let l = (v.vars.beside 0 0).long in
+    let k = ((rw v.loan.limit at w.done) (asked-still v.vars.rest c.requires.asked_of)).beside.long in
+    let m = (loan_then v.loan w.loan).limit in
+    omega arith
 
-pub get_rest-value-requires : goal.get_rest-value-requires
-get_rest-value-requires c = let v = c.put_vars.ensures in
-    let l = (v.beside 0 0).long in
-    let k = (c.walk_back-w.ensures (asked-still v.rest c.requires.asked_of)).beside.long in
-    record { limit_le_node_bound = c.requires.space.0; k_bound = omega arith }
-
-pub first_roots-roots-requires : goal.first_roots-roots-requires
-first_roots-roots-requires c = let z = asked-size c.requires.asked_of in omega (arith, c.wide-vars.ensures)
+pub first_roots-requires : goal.first_roots-requires
+first_roots-requires c = let z = asked-size c.requires.asked_of in omega arith
 
 pub returns : goal.returns
-returns c = let z = asked-size c.requires.asked_of in
+returns c =
+    let z = asked-size c.requires.asked_of in
     let v = c.put_vars.ensures in
-    λ x. asked-made x _ _ _ _ _ _ _ c.wide-vars.ensures v (c.walk_back-w.ensures (asked-still v.rest x)) z.0 (omega (arith, c.if-limit-vars.false, c.count_cells-cells.ensures.0)) c.get_rest-value.ensures c.first_roots-roots.ensures
+    let w = c.walk_back-w.ensures in
+    let m = loan_then v.loan w.loan in
+    record { loan = m; asked = λ x. asked-made x _ _ _ _ _ _ _ refl v.vars ((rw v.loan.limit at w.done) (asked-still v.vars.rest x)) z.0 (omega (arith, c.if-store-vars.false, c.count_cells-cells.ensures.0)) (rw m.limit at c.rest-value.ensures) c.first_roots.ensures }

@@ -3,8 +3,5 @@ use Prim.Native.Nat.{◌+◌, ◌-◌, ◌*◌, ◌≤◌}
 use Rattle.asking.specs.Question.{cells}
 use Rattle.asking.proofs.count_cells.Given as goal
 
-abbrev pub invariant-loop-left : goal.invariant-loop-left
-invariant-loop-left l = (l.count ≡ cells l.q (2 + 2 * l.left) (l.n - l.left)) × (l.count + l.left ≤ l.n)
-
-abbrev pub decreases-loop-left : goal.decreases-loop-left
-decreases-loop-left l = l.left
+abbrev pub invariant-loop-k : goal.invariant-loop-k
+invariant-loop-k l = (l.count + cells l.q (2 + 2 * l.k) (l.n - l.k) ≡ cells l.q 2 l.n) × (l.count ≤ l.k)

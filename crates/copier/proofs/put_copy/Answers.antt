@@ -1,42 +1,29 @@
-use native.Mathlib.Omega.{arith}
-use mathlib.Core.Path.{refl, ◌∙◌}
-use Rattle.copier.proofs.Copying.{copies-short, copying-start, copying-arg, copying-spot, copying-room, copying-step, copying-end}
+use Rattle.store.proofs.Became.{loan_same, loan_then}
+use Rattle.copier.proofs.Copying.{copies-short, copying-start, copying-spot, copying-room, copying-step, copying-end}
 use Rattle.copier.proofs.put_copy.Goals as goal
 
-pub put_head-requires : goal.put_head-requires
-put_head-requires c = record { room = c.requires.room; n_lt_limit = c.requires.copies.fits; count_bound = copies-short c.requires.copies c.requires.room.1 c.requires.count_value }
+pub put_head-requires-clause-count_bound : goal.put_head-requires-clause-count_bound
+put_head-requires-clause-count_bound c = copies-short c.requires.copies c.args.store.now.room.1 c.requires.count_value
 
 pub loop-j-init : goal.loop-j-init
-loop-j-init c = let h = c.put_head.ensures in let k = h.long in let r = c.requires.room.1 in (copying-start _ _ _ _ _ _ _ _ r c.requires.copies c.requires.count_value h, omega arith, refl, omega arith)
-
-pub arg-h-requires : goal.arg-h-requires
-arg-h-requires c = let i = c.loop-j.invariant in
-    let a = c.requires.copies.inside in
-    let b = c.requires.copies.beyond in
-    let f = c.requires.copies.fits in
-    record { room = (c.requires.room.0, i.3); n_lt_limit = omega arith; j_in_bounds = copying-arg _ _ _ _ _ _ _ _ i.0 c.loop-j-test.true }
+loop-j-init c = let h = c.put_head.ensures in record { loan = loan_same; copying = rw h.loan.limit (copying-start _ _ _ _ _ _ _ _ c.args.store.now.room.1 c.requires.copies c.requires.count_value h.did) }
 
 pub place_of-v-requires : goal.place_of-v-requires
-place_of-v-requires c = let i = c.loop-j.invariant in record { room = (c.requires.room.0, i.3); spots = copying-spot _ _ _ _ _ _ _ _ i.0 c.loop-j-test.true _ c.arg-h.ensures }
+place_of-v-requires c = let i = c.loop-j.invariant in record { spots = rw i.loan.limit (copying-spot _ _ _ _ _ _ _ _ i.copying c.loop-j-test.true _ (rw i.loan.limit at c.arg-h.ensures)) }
 
-pub put_arg-requires : goal.put_arg-requires
-put_arg-requires c = let i = c.loop-j.invariant in record { room = (c.requires.room.0, i.3); n_lt_limit = c.requires.copies.fits; j_in_bounds = copying-room _ _ _ _ _ _ _ _ i.0 c.loop-j-test.true }
-
-pub overflow_step-j : goal.overflow_step-j
-overflow_step-j c = omega arith
-
-pub loop-j-smaller : goal.loop-j-smaller
-loop-j-smaller c = omega arith
+pub put_arg-requires-clause-j_in_bounds : goal.put_arg-requires-clause-j_in_bounds
+put_arg-requires-clause-j_in_bounds c = let i = c.loop-j.invariant in rw i.loan.limit (copying-room _ _ _ _ _ _ _ _ i.copying c.loop-j-test.true)
 
 pub loop-j-preserved : goal.loop-j-preserved
-loop-j-preserved c = let i = c.loop-j.invariant in
-    let q = c.put_arg in
-    let k = q.ensures.long in
-    let r = i.3 in
-    (copying-step _ _ _ _ _ _ _ _ i.0 c.loop-j-test.true _ _ _ c.arg-h.ensures c.place_of-v.ensures q.ensures, omega arith, q.auto.s ∙ i.2, omega arith)
-
-pub shape_of-s : goal.shape_of-s
-shape_of-s c = c.loop-j.invariant.2 ∙ c.put_head.auto.s
+loop-j-preserved c =
+    let i = c.loop-j.invariant in
+    record {
+      loan = loan_then i.loan c.put_arg.ensures.loan;
+      copying = copying-step _ _ _ _ _ _ _ _ i.copying c.loop-j-test.true _ _ _ (rw i.loan.limit at c.arg-h.ensures) (rw i.loan.limit at c.place_of-v.ensures) (rw i.loan.limit at c.put_arg.ensures.did);
+    }
 
 pub returns : goal.returns
-returns c = let i = c.loop-j.invariant in copying-end _ _ _ _ _ _ _ _ _ _ _ c.requires.copies c.put_head.ensures i.0 (omega arith)
+returns c =
+    let h = c.put_head.ensures in
+    let i = c.loop-j.invariant in
+    record { loan = loan_then h.loan i.loan; did = copying-end _ _ _ _ _ _ _ _ _ _ _ c.requires.copies h.did (rw h.loan.limit at i.copying) c.loop-j-test.false }

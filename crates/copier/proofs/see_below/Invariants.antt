@@ -1,14 +1,17 @@
-use Prim.Native.Nat.{◌≤◌, ◌-◌}
-use mathlib.Core.Path.{◌≡◌}
-use lib.ListN.{length}
+use Prim.Native.Nat.{◌-◌}
 use Rattle.heap.specs.Graph.{sweep}
-use Rattle.store.specs.Regions.{graph_of}
+use Rattle.store.specs.Whole.{graph, SameLoan}
 use Rattle.copier.specs.Listed.{seen_in}
 use Rattle.copier.proofs.Listing.{Owes}
 use Rattle.copier.proofs.see_below.Given as goal
 
 abbrev pub invariant-loop-i : goal.invariant-loop-i
-invariant-loop-i at_turn = Owes at_turn.limit at_turn.initial.s at_turn.s (sweep at_turn.limit (graph_of at_turn.limit at_turn.initial.s) 0 (seen_in at_turn.limit at_turn.count at_turn.initial.s)) at_turn.k (λ l. sweep (at_turn.limit - at_turn.i) (graph_of at_turn.limit at_turn.initial.s) at_turn.i l) × (at_turn.i ≤ at_turn.limit) × (length at_turn.s ≡ length at_turn.initial.s)
+invariant-loop-i t =
+    let st = t.initial.store in
+    record {
+      loan : SameLoan st t.store;
+      owes : Owes st.limit st.bytes.now t.store.bytes.now (sweep st.limit (graph st) 0 (seen_in st.limit t.count st.bytes.now)) t.k (λ l. sweep (st.limit - t.i) (graph st) t.i l);
+    }
 
 abbrev pub decreases-loop-i : goal.decreases-loop-i
-decreases-loop-i l = l.limit - l.i
+decreases-loop-i l = l.initial.store.limit - l.i

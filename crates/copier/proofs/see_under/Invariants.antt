@@ -1,14 +1,15 @@
-use Prim.Native.Nat.{◌≤◌, ◌-◌}
-use mathlib.Core.Path.{◌≡◌}
-use lib.ListN.{length, drop}
+use lib.ListN.{drop}
 use Rattle.heap.specs.Graph.{node, args, sight}
-use Rattle.store.specs.Regions.{graph_of}
+use Rattle.store.specs.Whole.{graph, SameLoan}
 use Rattle.copier.specs.Listed.{seen_in}
 use Rattle.copier.proofs.Listing.{Owes}
 use Rattle.copier.proofs.see_under.Given as goal
 
 abbrev pub invariant-loop-j : goal.invariant-loop-j
-invariant-loop-j at_turn = Owes at_turn.limit at_turn.initial.s at_turn.s (sight (graph_of at_turn.limit at_turn.initial.s) (seen_in at_turn.limit at_turn.count at_turn.initial.s) (args (node (graph_of at_turn.limit at_turn.initial.s) at_turn.n.0))) at_turn.k (λ l. sight (graph_of at_turn.limit at_turn.initial.s) l (drop at_turn.j (args (node (graph_of at_turn.limit at_turn.initial.s) at_turn.n.0)))) × (at_turn.j ≤ at_turn.a) × (length at_turn.s ≡ length at_turn.initial.s)
-
-abbrev pub decreases-loop-j : goal.decreases-loop-j
-decreases-loop-j l = l.a - l.j
+invariant-loop-j t =
+    let st = t.initial.store in
+    let hs = args (node (graph st) t.n.0) in
+    record {
+      loan : SameLoan st t.store;
+      owes : Owes st.limit st.bytes.now t.store.bytes.now (sight (graph st) (seen_in st.limit t.count st.bytes.now) hs) t.k (λ l. sight (graph st) l (drop t.j hs));
+    }

@@ -1,13 +1,13 @@
-use Rattle.std.proofs.Common.{◌-◌, ◌≤◌, length, take}
+use Rattle.std.proofs.Common.{◌≡◌, ℕ, List, ◌++◌}
 use Rattle.std.specs.Io.KnownBytes.{Appends}
+use Rattle.std.specs.Slice.Iter.{chunks_rest, chunks_size}
 use Rattle.lines.specs.Written.{hex}
 use Rattle.lines.proofs.print_hex.Given as goal
 
-abbrev pub invariant-loop-at : goal.invariant-loop-at
-invariant-loop-at g l = record {
-  within : l.at ≤ length l.bytes;
-  bytes : Appends (g.W.Write.contents l.initial.out) (g.W.Write.contents l.out) (hex (take l.at l.bytes));
-}
-
-abbrev pub decreases-loop-at : goal.decreases-loop-at
-decreases-loop-at g l = length l.bytes - l.at
+abbrev pub invariant-loop-part : goal.invariant-loop-part
+invariant-loop-part g l =
+    (goal.iterator-loop-part g).can_next l.part-iterator
+    × (goal.iterator-loop-part g).is_finite l.part-iterator
+    × (chunks_size l.part-iterator ≡ 2048)
+    × ((done : List ℕ) × Appends (g.W.Write.contents l.initial.out) (g.W.Write.contents l.out) done
+    × (done ++ hex (chunks_rest l.part-iterator) ≡ hex l.bytes))

@@ -1,4 +1,7 @@
+-- `mem::put` meets its contract. Assumes nothing.
 use native.Mathlib.Omega.{arith}
+use mathlib.Core.Path.{◌≡◌}
+use Prim.Native.Nat.{◌/◌, ◌%◌}
 use lib.ListN.{length-set}
 use Rattle.mem.proofs.Laws.{room, word-wrote}
 use Rattle.mem.proofs.put.Goals as goal
@@ -16,4 +19,4 @@ pub bounds-s-at-2 : goal.bounds-s-at-2
 bounds-s-at-2 c = simp length-set (omega (arith, room _ _ c.requires))
 
 pub returns : goal.returns
-returns c = word-wrote _ _ _ c.requires
+returns c = let high : c.args.v / 256 % 256 ≡ c.args.v / 256 = omega arith in rw (c.to_le_bytes.ensures, high) (word-wrote _ _ _ c.requires)

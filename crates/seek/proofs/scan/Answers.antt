@@ -1,24 +1,18 @@
 -- The arguments one by one. The loop keeps that those passed are quiet.
 -- Assumes nothing.
 use native.Mathlib.Omega.{arith}
-use Rattle.seek.proofs.Meets.{scan-ends, scan-more}
-use borrow.Enum.Refused.{opened}
+use Rattle.store.proofs.Laws.{count-looked}
+use Rattle.seek.proofs.Meets.{scan-ends}
 use Rattle.seek.proofs.scan.Goals as goal
 
-pub loop-j-init : goal.loop-j-init
-loop-j-init c = (omega arith, λ i h. absurd (omega arith))
+pub arg-requires-clause-j_in_bounds : goal.arg-requires-clause-j_in_bounds
+arg-requires-clause-j_in_bounds c = let n = count-looked _ _ _ c.look.ensures c.count-count.ensures in omega arith
 
-pub meet-k-requires : goal.meet-k-requires
-meet-k-requires c = record { room = c.requires.room; walkable = rw c.arg-h.ensures (c.requires.under _ (omega (arith, c.arguments-a.ensures))) }
+pub meet-requires : goal.meet-requires
+meet-requires c = let n = count-looked _ _ _ c.look.ensures c.count-count.ensures in record { walkable = rw c.arg.ensures (c.requires.under _ (omega arith)) }
 
 pub returns-in_default : goal.returns-in_default
-returns-in_default c = scan-ends _ _ _ _ _ (omega (arith, c.arguments-a.ensures)) c.arg-h.ensures c.loop-j.invariant.1 c.meet-k.result (opened c.in_default.in_default-own.keys2) c.meet-k.ensures
-
-pub loop-j-smaller : goal.loop-j-smaller
-loop-j-smaller c = omega arith
-
-pub loop-j-preserved : goal.loop-j-preserved
-loop-j-preserved c = (omega arith, scan-more _ _ _ _ _ (omega (arith, c.arguments-a.ensures)) c.arg-h.ensures c.loop-j.invariant.1 _ c.in-Quiet.is c.meet-k.ensures)
+returns-in_default c = let n = count-looked _ _ _ c.look.ensures c.count-count.ensures in scan-ends _ _ _ _ _ (omega arith) c.arg.ensures c.loop-j.invariant c.meet.result c.in_default.not-Quiet c.meet.ensures
 
 pub returns : goal.returns
-returns c = record { each = λ i h. c.loop-j.invariant.1 i (omega (arith, c.arguments-a.ensures)) }
+returns c = record { each = λ i h. c.loop-j.invariant i (let n = count-looked _ _ _ c.look.ensures c.count-count.ensures in omega arith) }

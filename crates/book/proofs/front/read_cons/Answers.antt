@@ -1,43 +1,33 @@
+use Prim.Native.Nat.{◌+◌, ◌-◌}
+use mathlib.Core.Path.{◌≡◌, ap}
 use native.Mathlib.Omega.{arith}
-use mathlib.Core.Path.{sym, ◌∙◌}
-use Rattle.book.proofs.Fronts.{cons-start, cons-end, cons-bad, cons-odd, cons-many, cons-arity, cons-more}
+use Rattle.std.proofs.lemmas.Result.{err_from_is_err_and}
+use Rattle.std.proofs.Common.{rules}
+use Rattle.book.specs.declared.Kind.TheVariants as kind
+use Rattle.book.specs.Kinds.{by_number}
+use Rattle.book.proofs.Numbers.{same-number, other-number}
+use Rattle.book.proofs.Fronts.{cons-end, cons-bad, cons-odd, cons-many, cons-arity, cons-more}
 use Rattle.book.proofs.front.read_cons.Goals as goal
 
-pub loop-left-init : goal.loop-left-init
-loop-left-init c = cons-start _ _ _ _ _ c.requires.0 c.requires.1
+pub returns-in_err-r : goal.returns-in_err-r
+returns-in_err-r c = let p = err_from_is_err_and c.from_residual.result c.from_residual.ensures.1 in rw (p.1, p.2) (cons-bad _ c.loop-i.invariant (omega arith) c.rec_at.ensures (ap by_number c.in_err-r.was))
 
-pub shape_of-table-in_default : goal.shape_of-table-in_default
-shape_of-table-in_default c = c.loop-left.invariant.long ∙ sym c.requires.0
+pub returns-then-ne : goal.returns-then-ne
+returns-then-ne c = rw c.new.ensures (cons-odd _ c.loop-i.invariant (omega arith) c.rec_at.ensures (ap by_number c.in_ok-r.was) (other-number {k = kind.Cons} (search rules)))
 
-pub returns-in_default : goal.returns-in_default
-returns-in_default c = cons-bad _ c.loop-left.invariant c.loop-left-test.true c.rec_at-r.ensures c.in_default.is c.bad.ensures
+pub returns-then-before-i-ge256 : goal.returns-then-before-i-ge256
+returns-then-before-i-ge256 c = rw c.new-then-before-i-ge256.ensures (cons-many _ c.loop-i.invariant (omega arith) c.rec_at.ensures (ap by_number c.in_ok-r.was) (same-number kind.Cons (search rules)) c.if-before-i-ge256.true)
 
-pub shape_of-table-then-kind-ne2 : goal.shape_of-table-then-kind-ne2
-shape_of-table-then-kind-ne2 c = c.loop-left.invariant.long ∙ sym c.requires.0
+pub returns-then-r-gt8 : goal.returns-then-r-gt8
+returns-then-r-gt8 c = rw c.new-then-r-gt8.ensures (cons-arity _ c.loop-i.invariant (omega arith) c.rec_at.ensures (ap by_number c.in_ok-r.was) (same-number kind.Cons (search rules)) c.if-before-i-ge256.false c.if-r-gt8.true)
 
-pub returns-then-kind-ne2 : goal.returns-then-kind-ne2
-returns-then-kind-ne2 c = cons-odd _ c.loop-left.invariant c.loop-left-test.true c.rec_at-r.ensures c.in-Of.is c.if-kind-ne2.true
-
-pub shape_of-table-then-had-ge256 : goal.shape_of-table-then-had-ge256
-shape_of-table-then-had-ge256 c = c.loop-left.invariant.long ∙ sym c.requires.0
-
-pub returns-then-had-ge256 : goal.returns-then-had-ge256
-returns-then-had-ge256 c = cons-many _ c.loop-left.invariant c.loop-left-test.true c.rec_at-r.ensures c.in-Of.is c.if-kind-ne2.false c.if-had-ge256.true
-
-pub shape_of-table-then-a-gt8 : goal.shape_of-table-then-a-gt8
-shape_of-table-then-a-gt8 c = c.loop-left.invariant.long ∙ sym c.requires.0
-
-pub returns-then-a-gt8 : goal.returns-then-a-gt8
-returns-then-a-gt8 c = cons-arity _ c.loop-left.invariant c.loop-left-test.true c.rec_at-r.ensures c.in-Of.is c.if-kind-ne2.false c.if-had-ge256.false c.if-a-gt8.true
-
-pub bounds-table-had : goal.bounds-table-had
-bounds-table-had c = omega (arith, c.loop-left.invariant.long, c.if-had-ge256.false)
-
-pub loop-left-preserved : goal.loop-left-preserved
-loop-left-preserved c = cons-more _ c.loop-left.invariant c.loop-left-test.true c.rec_at-r.ensures c.in-Of.is c.if-kind-ne2.false c.if-had-ge256.false c.if-a-gt8.false
-
-pub shape_of-table : goal.shape_of-table
-shape_of-table c = c.loop-left.invariant.long ∙ sym c.requires.0
+pub loop-i-preserved : goal.loop-i-preserved
+loop-i-preserved c =
+    let b = c.args.before in
+    let i = c.loop-i.i in
+    let e : b + (i + 1) ≡ b + i + 1 = omega arith in
+    let f : c.args.n - (i + 1) ≡ c.args.n - i - 1 = omega arith in
+    rw (e, f) (cons-more _ c.loop-i.invariant (omega arith) c.rec_at.ensures (ap by_number c.in_ok-r.was) (same-number kind.Cons (search rules)) c.if-before-i-ge256.false c.if-r-gt8.false)
 
 pub returns : goal.returns
-returns c = cons-end _ c.loop-left.invariant c.loop-left-test.false
+returns c = cons-end _ c.loop-i.invariant (omega arith)

@@ -1,22 +1,22 @@
-use Rattle.book.proofs.Places.{grown-none, grown-more, grown-end, slot-depth}
-use lib.ListN.{length-set}
+use Prim.Native.Nat.{◌+◌, ◌-◌}
+use mathlib.Core.Path.{◌≡◌}
+use mathlib.Core.List.{◌++◌}
+use lib.ListN.{get_or, replicate, take, set, length, length-set, length-append, length-drop}
+use lib.Seq.{length-take-le}
 use native.Mathlib.Omega.{arith}
+use borrow.Rule.Slice.PartMut.{put_mid}
+use Rattle.std.proofs.Common.{rules}
+use Rattle.std.proofs.lemmas.Slice.{take-put_mid}
+use Rattle.book.proofs.Places.{under-is}
 use Rattle.book.proofs.tree.under.Goals as goal
 
-pub bounds-depth-slot : goal.bounds-depth-slot
-bounds-depth-slot c = let p = c.requires in omega (arith, p.0.there, p.0.kept.few)
-
-pub bounds-depth-slot-2 : goal.bounds-depth-slot-2
-bounds-depth-slot-2 c = let p = c.requires in omega (arith, p.0.there, p.0.kept.few)
-
-pub loop-i-init : goal.loop-i-init
-loop-i-init c = (grown-none _ _ _ (simp length-set c.requires.0.kept.long), omega arith)
-
-pub overflow_add-depth : goal.overflow_add-depth
-overflow_add-depth c = let p = c.requires in omega (arith, p.0.short, slot-depth _ _ p.0)
-
-pub loop-i-preserved : goal.loop-i-preserved
-loop-i-preserved c = (grown-more _ _ _ _ c.loop-i.invariant.0 (let p = c.requires in omega (arith, p.1, c.loop-i-test.true)), omega (arith, c.loop-i-test.true))
-
 pub returns : goal.returns
-returns c = grown-end _ _ _ _ c.requires.0 c.requires.1 c.loop-i.invariant.1 c.loop-i-test.false c.loop-i.invariant.0
+returns c =
+    let n = c.args.slots.n in
+    let old = set c.args.slots.depth c.args.slot 8 in
+    let f : c.fill.new.self ≡ replicate c.args.a (get_or c.args.slots.depth c.args.slot 0 + 1) = search rules in
+    let lp : length c.fill.new.self ≡ c.args.a = search rules in
+    let lo : length old ≡ 64 = simp length-set c.requires.0.kept.long in
+    let t : take (n + c.args.a) (put_mid n (n + c.args.a - n) old c.fill.new.self) ≡ take n old ++ c.fill.new.self = take-put_mid n _ old c.fill.new.self (n + c.args.a) (omega (arith, lp)) (omega (arith, lo, c.requires.0.kept.few)) in
+    let h : length (put_mid n (n + c.args.a - n) old c.fill.new.self) ≡ 64 = simp (length-append, length-drop) (let p = length-take-le n old (omega (arith, lo, c.requires.0.kept.few)) in omega (arith, p, lp, lo, c.requires.1)) in
+    under-is _ _ _ c.requires.0 c.requires.1 f t h

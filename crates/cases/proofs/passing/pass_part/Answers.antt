@@ -1,12 +1,18 @@
-use Rattle.std.proofs.Common.{arith, sym, ◌∙◌}
-use Rattle.cases.proofs.Passes.{pass-again, pass-end, reach-again}
+use Rattle.std.proofs.Common.{arith, refl, ap, ◌∙◌}
+use Rattle.std.proofs.lemmas.List.{take_all}
+use Rattle.cases.specs.Parts.{passed}
+use Rattle.cases.proofs.Passes.{pass-more, reach-so-far}
 use Rattle.cases.proofs.passing.pass_part.Goals as goal
 
-pub loop-at-preserved : goal.loop-at-preserved
-loop-at-preserved c =
-    let v = c.loop-at.invariant in
-    let l = c.loop-at-test.true in
-    record { ahead = pass-again _ _ _ l v.ahead c.pass_byte-now.ensures; near = reach-again _ _ _ _ c.pass_byte-now.ensures v.near; within = omega (arith, l) }
+pub loop-x-init : goal.loop-x-init
+unfolding passed
+loop-x-init c = refl
+
+pub pass_byte-now-requires : goal.pass_byte-now-requires
+pass_byte-now-requires c = let g = reach-so-far c.args.p c.args.part.now c.loop-x.x-index c.loop-x-test.true c.loop-x.invariant in omega arith
+
+pub loop-x-preserved : goal.loop-x-preserved
+loop-x-preserved c = pass-more c.args.p c.args.part.now c.loop-x.x-index c.loop-x-test.true c.loop-x.invariant c.pass_byte-now.ensures
 
 pub returns : goal.returns
-returns c = sym (pass-end _ _ _ c.loop-at-test.false) ∙ c.loop-at.invariant.ahead
+returns c = c.loop-x.invariant ∙ ap (passed c.args.p) (take_all c.loop-x.x-index c.args.part.now c.loop-x-test.false)

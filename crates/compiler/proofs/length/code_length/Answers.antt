@@ -11,9 +11,6 @@ cost_at-sum-requires c = (ahead-on c.requires (c.loop-at.invariant.1 c.requires)
 pub overflow_add-sum : goal.overflow_add-sum
 overflow_add-sum c = let s = short c.requires in omega (arith, c.cost_at-sum.ensures.1)
 
-pub bounds-book-at : goal.bounds-book-at
-bounds-book-at c = omega arith
-
 pub overflow_add-at : goal.overflow_add-at
 overflow_add-at c = omega (arith, ((ahead-on c.requires (c.loop-at.invariant.1 c.requires) c.loop-at-test.true).goes _ c.width-at.ensures).1)
 

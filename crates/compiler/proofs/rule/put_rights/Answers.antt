@@ -1,49 +1,40 @@
 use native.Mathlib.Omega.{arith}
 use mathlib.Core.Path.{refl, ap}
-use Rattle.compiler.proofs.Writing.{emits-long, emits-as}
-use Rattle.compiler.proofs.Loops.{vars-long, progress-long}
+use Rattle.compiler.proofs.Writing.{emits-as}
+use Rattle.compiler.proofs.Loops.{vars-long}
 use Rattle.compiler.specs.Rows.{vars_code}
-use Rattle.compiler.proofs.Rights.{left-start, left-turns, left-none}
+use Rattle.compiler.proofs.Rights.{left-as, left-turns, left-none}
 use Rattle.compiler.proofs.rule.put_rights.Goals as goal
 
-pub loop-left-init : goal.loop-left-init
-loop-left-init c = λ x. left-start x
-
 pub overflow_add-v : goal.overflow_add-v
-overflow_add-v c = omega (arith, (left-turns c.requires (c.loop-left.invariant c.requires) c.loop-left-test.true).inside)
+overflow_add-v c = let t = left-turns c.requires (c.loop.invariant c.requires) (omega arith) in omega (arith, t.inside)
 
 pub bounds-s-at : goal.bounds-s-at
-bounds-s-at c = omega (arith, (left-turns c.requires (c.loop-left.invariant c.requires) c.loop-left-test.true).inside)
+bounds-s-at c = let t = left-turns c.requires (c.loop.invariant c.requires) (omega arith) in omega (arith, t.inside)
 
 pub overflow_add-k : goal.overflow_add-k
-overflow_add-k c = omega (arith, (left-turns c.requires (c.loop-left.invariant c.requires) c.loop-left-test.true).inside)
+overflow_add-k c = let t = left-turns c.requires (c.loop.invariant c.requires) (omega arith) in omega (arith, t.inside)
 
 pub term_size-size-requires : goal.term_size-size-requires
-term_size-size-requires c = (left-turns c.requires (c.loop-left.invariant c.requires) c.loop-left-test.true).here
+term_size-size-requires c = (left-turns c.requires (c.loop.invariant c.requires) (omega arith)).here
 
 pub put_vars-p-requires : goal.put_vars-p-requires
-put_vars-p-requires c = let a = (left-turns c.requires (c.loop-left.invariant c.requires) c.loop-left-test.true).ahead in let b = (left-turns c.requires (c.loop-left.invariant c.requires) c.loop-left-test.true).are in omega arith
+put_vars-p-requires c = let t = left-turns c.requires (c.loop.invariant c.requires) (omega arith) in omega (arith, t.ahead, t.are)
 
-pub put_term-out-requires : goal.put_term-out-requires
-put_term-out-requires c = let z = c.term_size-size.ensures (left-turns c.requires (c.loop-left.invariant c.requires) c.loop-left-test.true).here in let a = (left-turns c.requires (c.loop-left.invariant c.requires) c.loop-left-test.true).ahead in let b = (left-turns c.requires (c.loop-left.invariant c.requires) c.loop-left-test.true).are in let n = emits-long c.put_vars-p.ensures in let l = vars-long (left-turns c.requires (c.loop-left.invariant c.requires) c.loop-left-test.true).vars in let q = rw b at c.put_vars-p.ensures.next in rw z (record { rows_len = (c.requires.are.long, omega (arith, (left-turns c.requires (c.loop-left.invariant c.requires) c.loop-left-test.true).inside)); n_in_bounds = omega arith })
+pub put_term-out-requires-clause-s_in_bounds : goal.put_term-out-requires-clause-s_in_bounds
+put_term-out-requires-clause-s_in_bounds c = let t = left-turns c.requires (c.loop.invariant c.requires) (omega arith) in let z = c.term_size-size.ensures t.here in omega (arith, t.inside)
+
+pub put_term-out-requires-clause-n_in_bounds : goal.put_term-out-requires-clause-n_in_bounds
+put_term-out-requires-clause-n_in_bounds c = let t = left-turns c.requires (c.loop.invariant c.requires) (omega arith) in let z = c.term_size-size.ensures t.here in let l = vars-long t.vars in let q = rw t.are at c.put_vars-p.ensures.next in rw z (omega (arith, t.ahead))
 
 pub overflow_mul-at : goal.overflow_mul-at
-overflow_mul-at c = let z = c.term_size-size.ensures (left-turns c.requires (c.loop-left.invariant c.requires) c.loop-left-test.true).here in omega (arith, (left-turns c.requires (c.loop-left.invariant c.requires) c.loop-left-test.true).inside)
+overflow_mul-at c = let t = left-turns c.requires (c.loop.invariant c.requires) (omega arith) in let z = c.term_size-size.ensures t.here in omega (arith, t.inside)
 
 pub overflow_add-at : goal.overflow_add-at
-overflow_add-at c = let z = c.term_size-size.ensures (left-turns c.requires (c.loop-left.invariant c.requires) c.loop-left-test.true).here in omega (arith, (left-turns c.requires (c.loop-left.invariant c.requires) c.loop-left-test.true).inside)
+overflow_add-at c = let t = left-turns c.requires (c.loop.invariant c.requires) (omega arith) in let z = c.term_size-size.ensures t.here in omega (arith, t.inside)
 
-pub overflow_sub-left : goal.overflow_sub-left
-overflow_sub-left c = omega arith
-
-pub loop-left-smaller : goal.loop-left-smaller
-loop-left-smaller c = omega arith
-
-pub loop-left-preserved : goal.loop-left-preserved
-loop-left-preserved c = λ x. (let y = left-turns x (c.loop-left.invariant x) c.loop-left-test.true in y.next _ _ _ _ _ (c.term_size-size.ensures y.here) (emits-as c.put_vars-p.ensures _ (ap vars_code y.are)) c.put_term-out.ensures)
-
-pub shape_of-code : goal.shape_of-code
-shape_of-code c = progress-long (c.loop-left.invariant c.requires).wrote
+pub loop-preserved : goal.loop-preserved
+loop-preserved c = λ x. (let t = left-turns x (c.loop.invariant x) (omega arith) in left-as x (t.next _ _ _ _ _ (c.term_size-size.ensures t.here) (emits-as c.put_vars-p.ensures _ (ap vars_code t.are)) c.put_term-out.ensures) _ (omega arith))
 
 pub returns : goal.returns
-returns c = λ x. left-none x (c.loop-left.invariant x) c.loop-left-test.false _ refl refl
+returns c = λ x. left-none x (c.loop.invariant x) (omega arith) _ refl refl

@@ -1,12 +1,8 @@
 use mathlib.Core.Path.{◌≡◌}
-use Prim.Native.Nat.{◌-◌, ◌≤◌}
 use lib.ListN.{length}
 use Rattle.mem.specs.Words.{words}
 use Rattle.compiler.specs.Tables.{ConsNoted}
 use Rattle.compiler.proofs.tables.note_cons.Given as goal
 
 abbrev pub invariant-loop-c : goal.invariant-loop-c
-invariant-loop-c l = (l.c ≤ l.n) × (length l.tables ≡ length l.initial.tables) × ConsNoted l.book l.lore (words l.initial.tables) (words l.tables) l.c
-
-abbrev pub decreases-loop-c : goal.decreases-loop-c
-decreases-loop-c l = l.n - l.c
+invariant-loop-c l = (length l.tables ≡ length l.initial.tables) × ConsNoted l.book l.lore (words l.initial.tables) (words l.tables) l.c

@@ -1,12 +1,16 @@
-use mathlib.Core.Path.{sym, ◌∙◌}
-use Rattle.compiler.proofs.Loops.{args-con, args-fun, args_none}
+use native.Mathlib.Omega.{arith}
+use mathlib.Core.Path.{sym}
+use Rattle.compiler.specs.Rows.{args_at}
+use Rattle.compiler.proofs.Loops.{args_none}
 use Rattle.compiler.proofs.term.args_at.Goals as goal
 
-pub returns-then-kind-eq7 : goal.returns-then-kind-eq7
-returns-then-kind-eq7 c = c.wide.ensures ∙ rw c.wide-i.ensures (sym (args-con _ _ _ c.if-kind-eq7.true))
+pub returns-in-7 : goal.returns-in-7
+unfolding args_at
+returns-in-7 c = rw c.in-7.is
 
-pub returns-then-kind-eq8 : goal.returns-then-kind-eq8
-returns-then-kind-eq8 c = c.wide-then-kind-eq8.ensures ∙ rw c.wide-i.ensures (sym (args-fun _ _ _ c.if-kind-eq7.false c.if-kind-eq8.true))
+pub returns-in-8 : goal.returns-in-8
+unfolding args_at
+returns-in-8 c = rw c.in-8.is
 
-pub returns : goal.returns
-returns c = sym (args_none _ _ _ c.if-kind-eq7.false c.if-kind-eq8.false)
+pub returns-in_default : goal.returns-in_default
+returns-in_default c = sym (args_none _ _ _ (λ z. omega arith) (λ z. omega arith))

@@ -2,46 +2,34 @@ use native.Mathlib.Omega.{arith}
 use mathlib.Core.Path.{sym}
 use mathlib.Core.List.{[], ◌∷◌}
 use lib.ListN.{length-append}
-use Rattle.compiler.proofs.Writing.{emits-long, emits_then, emits-as}
+use Rattle.compiler.proofs.Writing.{emits_then, emits-as}
 use Rattle.compiler.proofs.Loops.{row-long, code-con, code-fun, code-fresh, code-slot}
 use Rattle.compiler.specs.Rows.{row}
 use Rattle.compiler.proofs.term.put_record.Goals as goal
 
-pub put3-requires : goal.put3-requires
-put3-requires c = let e = code-con c.args.rows.now c.args.kind c.args.n c.if-kind-eq7.true in let h = rw e at c.requires.n_in_bounds in omega arith
+pub put-requires : goal.put-requires
+put-requires c = let h = rw (c.in-7.is, code-con) at c.requires in omega arith
 
-pub shape_of-code-then-kind-eq7 : goal.shape_of-code-then-kind-eq7
-shape_of-code-then-kind-eq7 c = emits-long c.put3.ensures
+pub returns-in-7 : goal.returns-in-7
+returns-in-7 c = emits-as c.put.ensures _ (rw c.in-7.is (sym (code-con _ _)))
 
-pub returns-then-kind-eq7 : goal.returns-then-kind-eq7
-returns-then-kind-eq7 c = emits-as c.put3.ensures _ (sym (code-con _ _ _ c.if-kind-eq7.true))
+pub put-requires-in-8 : goal.put-requires-in-8
+put-requires-in-8 c = let h = rw (c.in-8.is, code-fun) at c.requires in omega arith
 
-pub put3-requires-then-kind-eq8 : goal.put3-requires-then-kind-eq8
-put3-requires-then-kind-eq8 c = let e = code-fun c.args.rows.now c.args.kind c.args.n c.if-kind-eq7.false c.if-kind-eq8.true in let h = rw e at c.requires.n_in_bounds in omega arith
+pub returns-in-8 : goal.returns-in-8
+returns-in-8 c = emits-as c.put-in-8.ensures _ (rw c.in-8.is (sym (code-fun _ _)))
 
-pub shape_of-code-then-kind-eq8 : goal.shape_of-code-then-kind-eq8
-shape_of-code-then-kind-eq8 c = emits-long c.put3-then-kind-eq8.ensures
+pub put-requires-in-10 : goal.put-requires-in-10
+put-requires-in-10 c = let h = rw (c.in-10.is, code-fresh) at c.requires in omega arith
 
-pub returns-then-kind-eq8 : goal.returns-then-kind-eq8
-returns-then-kind-eq8 c = emits-as c.put3-then-kind-eq8.ensures _ (sym (code-fun _ _ _ c.if-kind-eq7.false c.if-kind-eq8.true))
+pub returns-in-10 : goal.returns-in-10
+returns-in-10 c = emits-as c.put-in-10.ensures _ (rw c.in-10.is (sym (code-fresh _ _)))
 
-pub put2-requires : goal.put2-requires
-put2-requires c = let e = code-fresh c.args.rows.now c.args.kind c.args.n c.if-kind-eq7.false c.if-kind-eq8.false c.if-kind-eq10.true in let h = rw e at c.requires.n_in_bounds in omega arith
+pub put_load-p-requires-clause-o_in_bounds : goal.put_load-p-requires-clause-o_in_bounds
+put_load-p-requires-clause-o_in_bounds c = let h = rw (code-slot c.args.rows.now c.args.n c.args.kind (λ z. omega arith) (λ z. omega arith) (λ z. omega arith)) at c.requires in let n = row-long c.args.rows.now c.args.n c.told-rows (omega arith) in let q = length-append (row c.args.rows.now c.args.n) (0x33 ∷ []) in omega arith
 
-pub shape_of-code-then-kind-eq10 : goal.shape_of-code-then-kind-eq10
-shape_of-code-then-kind-eq10 c = emits-long c.put2.ensures
+pub put-requires-in_default : goal.put-requires-in_default
+put-requires-in_default c = let h = rw (code-slot c.args.rows.now c.args.n c.args.kind (λ z. omega arith) (λ z. omega arith) (λ z. omega arith)) at c.requires in let n = row-long c.args.rows.now c.args.n c.told-rows (omega arith) in let q = length-append (row c.args.rows.now c.args.n) (0x33 ∷ []) in omega arith
 
-pub returns-then-kind-eq10 : goal.returns-then-kind-eq10
-returns-then-kind-eq10 c = emits-as c.put2.ensures _ (sym (code-fresh _ _ _ c.if-kind-eq7.false c.if-kind-eq8.false c.if-kind-eq10.true))
-
-pub put_load-p-requires : goal.put_load-p-requires
-put_load-p-requires c = let e = code-slot c.args.rows.now c.args.kind c.args.n c.if-kind-eq7.false c.if-kind-eq8.false c.if-kind-eq10.false in let h = rw e at c.requires.n_in_bounds in let n = row-long c.args.rows.now c.args.n c.requires.rows_len (omega arith) in let q = length-append (row c.args.rows.now c.args.n) (0x33 ∷ []) in record { rows_len = (c.requires.rows_len, omega (arith, c.wide.ensures)); o_in_bounds = omega arith }
-
-pub put1-requires : goal.put1-requires
-put1-requires c = let e = code-slot c.args.rows.now c.args.kind c.args.n c.if-kind-eq7.false c.if-kind-eq8.false c.if-kind-eq10.false in let h = rw e at c.requires.n_in_bounds in let n = row-long c.args.rows.now c.args.n c.requires.rows_len (omega arith) in let q = length-append (row c.args.rows.now c.args.n) (0x33 ∷ []) in let m = emits-long c.put_load-p.ensures in let f = rw c.wide.ensures at c.put_load-p.ensures.next in omega arith
-
-pub shape_of-code : goal.shape_of-code
-shape_of-code c = emits-long (emits_then c.put_load-p.ensures c.put1.ensures)
-
-pub returns : goal.returns
-returns c = emits-as (emits_then c.put_load-p.ensures c.put1.ensures) _ (rw c.wide.ensures (sym (code-slot _ _ _ c.if-kind-eq7.false c.if-kind-eq8.false c.if-kind-eq10.false)))
+pub returns-in_default : goal.returns-in_default
+returns-in_default c = emits-as (emits_then c.put_load-p.ensures c.put-in_default.ensures) _ (sym (code-slot _ _ _ (λ z. omega arith) (λ z. omega arith) (λ z. omega arith)))

@@ -5,9 +5,6 @@ use Rattle.compiler.proofs.term.term_size.Goals as goal
 pub loop-due-init : goal.loop-due-init
 loop-due-init c = λ x. due-start x
 
-pub overflow_sub-due : goal.overflow_sub-due
-overflow_sub-due c = omega arith
-
 pub bounds-s-at : goal.bounds-s-at
 bounds-s-at c = omega (arith, (due-goes c.requires (c.loop-due.invariant c.requires) c.loop-due-test.true).inside)
 
@@ -16,9 +13,6 @@ overflow_add-at c = omega (arith, (due-goes c.requires (c.loop-due.invariant c.r
 
 pub bounds-s-at-in-loop-due : goal.bounds-s-at-in-loop-due
 bounds-s-at-in-loop-due c = omega (arith, (due-goes c.requires (c.loop-due.invariant c.requires) c.loop-due-test.true).inside)
-
-pub args_at-requires : goal.args_at-requires
-args_at-requires c = c.requires.told.long
 
 pub overflow_add-due : goal.overflow_add-due
 overflow_add-due c = let h = due-small c.requires (due-goes c.requires (c.loop-due.invariant c.requires) c.loop-due-test.true).next in rw c.args_at.ensures (omega arith)

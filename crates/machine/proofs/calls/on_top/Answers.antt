@@ -1,12 +1,13 @@
+use Rattle.store.proofs.Became.{loan_same}
 use Rattle.machine.proofs.Driving.{topped-empty, topped-other, topped-call}
 use native.Mathlib.Omega.{arith}
 use Rattle.machine.proofs.calls.on_top.Goals as goal
 
 pub returns-then-top-eq0 : goal.returns-then-top-eq0
-returns-then-top-eq0 c = topped-empty _ _ _ _ _ _ _ c.if-top-eq0.true
+returns-then-top-eq0 c = record { loan = loan_same; topped = rw c.emptied-regs.ensures (topped-empty _ _ _ _ _ _ c.if-top-eq0.true) }
 
 pub returns-in_default : goal.returns-in_default
-returns-in_default c = topped-other _ _ _ _ _ _ _ _ _ (omega arith) c.follow-at.ensures c.node_at-k.ensures c.called-call.ensures _ c.in_default.is
+returns-in_default c = record { loan = loan_same; topped = rw c.emptied-regs.ensures (topped-other _ _ _ _ _ _ _ _ _ (omega arith) c.follow-at.ensures c.node_at-k.ensures c.called.ensures c.in_default.is) }
 
 pub returns : goal.returns
-returns c = topped-call _ _ _ _ _ _ _ _ _ (omega arith) c.follow-at.ensures c.node_at-k.ensures c.called-call.ensures _ _ c.in-Fun.is c.start_of.ensures c.exec.ensures
+returns c = record { loan = c.exec.ensures.loan; topped = topped-call _ _ _ _ _ _ _ _ _ (omega arith) c.follow-at.ensures c.node_at-k.ensures c.called.ensures _ _ c.in-Some.is c.start_of-pc.ensures (rw c.emptied-regs.ensures at c.exec.ensures.came) }

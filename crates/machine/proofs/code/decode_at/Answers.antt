@@ -1,16 +1,12 @@
 use Rattle.machine.proofs.Codes.{outside}
-use Rattle.machine.proofs.Codes.{op-load, op-load-all, op-branch, op-go, op-push, op-pop, op-anon, op-store, op-var, op-term, op-replace, op-narrow, op-choice, op-fail, op-wrong}
-use native.Mathlib.Omega.{arith}
+use Rattle.machine.proofs.Codes.{op-load, op-branch, op-go, op-push, op-pop, op-anon, op-store, op-var, op-term, op-replace, op-narrow, op-choice, op-fail, op-wrong}
 use Rattle.machine.proofs.code.decode_at.Goals as goal
 
-pub returns-then-b-lt8 : goal.returns-then-b-lt8
-returns-then-b-lt8 c = op-load _ _ c.requires.pc_in_bounds _ c.byte_at-b.ensures c.in-48.is c.if-b-lt8.true
-
-pub returns-else-b-lt8 : goal.returns-else-b-lt8
-returns-else-b-lt8 c = op-load-all _ _ c.requires.pc_in_bounds _ c.byte_at-b.ensures c.in-48.is (omega arith)
+pub returns-in-48 : goal.returns-in-48
+returns-in-48 c = op-load _ _ c.requires.pc_in_bounds _ _ c.byte_at.ensures c.min.ensures c.in-48.is
 
 pub returns-in-49 : goal.returns-in-49
-returns-in-49 c = op-branch _ _ c.requires.pc_in_bounds _ c.byte_at.ensures c.in-49.is
+returns-in-49 c = op-branch _ _ c.requires.pc_in_bounds _ c.byte_at-in-49.ensures c.in-49.is
 
 pub returns-in-50 : goal.returns-in-50
 returns-in-50 c = op-go _ _ c.requires.pc_in_bounds c.in-50.is

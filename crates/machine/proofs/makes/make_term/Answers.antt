@@ -1,21 +1,12 @@
-use Rattle.machine.proofs.Making.{term-many, term-lost, term-full, term_is}
-use native.Mathlib.Omega.{arith}
+use Rattle.store.proofs.Became.{loan_same, loan_then}
+use Rattle.machine.proofs.Making.{term-lost, term-full, term_is}
 use Rattle.machine.proofs.makes.make_term.Goals as goal
 
 pub returns-then-n-gt8 : goal.returns-then-n-gt8
-returns-then-n-gt8 c = term-many _ _ _ _ _ c.requires.fine _ _ c.arity-count.ensures c.if-n-gt8.true
+returns-then-n-gt8 c = record { loan = loan_same; went = rw c.ends.ensures (term-lost _ _ _ _ _ c.requires.fine _ _ c.arity-count.ensures c.then-n-gt8.either) }
 
-pub returns-then-n-regs : goal.returns-then-n-regs
-returns-then-n-regs c = term-lost _ _ _ _ _ c.requires.fine _ _ c.arity-count.ensures c.if-n-regs.true
-
-pub returns-then-regs-limit : goal.returns-then-regs-limit
-returns-then-regs-limit c = term-full _ _ _ _ _ c.requires.fine _ _ c.arity-count.ensures c.if-n-regs.false c.if-regs-limit.true
-
-pub overflow_add-r : goal.overflow_add-r
-overflow_add-r c = omega (arith, c.if-regs-limit.false, c.requires.space.0)
-
-pub push_term-requires : goal.push_term-requires
-push_term-requires c = record { space = (c.requires.space.0, c.requires.space.1, rw c.lay_cell.ensures.long c.requires.space.2); fine = (omega (arith, c.requires.fine.0), c.requires.fine.1) }
+pub returns-then-regs-store : goal.returns-then-regs-store
+returns-then-regs-store c = record { loan = loan_same; went = rw c.ends-then-regs-store.ensures (term-full _ _ _ _ _ c.requires.fine _ _ c.arity-count.ensures c.if-n-regs.false c.if-regs-store.true) }
 
 pub returns : goal.returns
-returns c = term_is _ _ _ _ _ c.requires.fine _ _ c.arity-count.ensures c.if-n-regs.false c.if-regs-limit.false c.lay_cell.ensures c.push_term.ensures
+returns c = let l = c.lay_cell.ensures.loan in record { loan = loan_then l c.push_term.ensures.loan; went = term_is _ _ _ _ _ c.requires.fine _ _ c.arity-count.ensures c.if-n-regs.false c.if-regs-store.false c.lay_cell.ensures.did (rw l.limit at c.push_term.ensures.went) }

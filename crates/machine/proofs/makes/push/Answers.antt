@@ -1,9 +1,9 @@
-use Rattle.machine.proofs.Execs.{refused, passed}
+use Rattle.store.proofs.Became.{loan_same}
 use Rattle.machine.proofs.Making.{push-lost, push-is}
 use Rattle.machine.proofs.makes.push.Goals as goal
 
-pub returns-then-not-regs : goal.returns-then-not-regs
-returns-then-not-regs c = push-lost _ _ _ _ _ c.requires.fine (refused _ c.if-not-regs.true)
+pub returns-in_default : goal.returns-in_default
+returns-in_default c = record { loan = loan_same; went = rw c.ends.ensures (push-lost _ _ _ _ _ c.requires.fine c.in_default.is) }
 
 pub returns : goal.returns
-returns c = push-is _ _ _ _ _ c.requires.fine (passed _ c.if-not-regs.false) c.push_term.ensures
+returns c = record { loan = c.push_term.ensures.loan; went = push-is _ _ _ _ _ c.requires.fine _ c.in-Some.is c.push_term.ensures.went }

@@ -1,9 +1,8 @@
-use Rattle.machine.proofs.Execs.{refused, passed}
 use Rattle.machine.proofs.Runs.{narrow-lost, narrow-is}
 use Rattle.machine.proofs.ops.narrow.Goals as goal
 
-pub returns-then-not-regs : goal.returns-then-not-regs
-returns-then-not-regs c = narrow-lost _ _ _ _ _ c.requires.fine (refused _ c.if-not-regs.true)
+pub returns-in_default : goal.returns-in_default
+returns-in_default c = rw c.ends.ensures (narrow-lost _ _ _ _ _ c.requires.fine c.in_default.is)
 
 pub returns : goal.returns
-returns c = narrow-is _ _ _ _ _ c.requires.fine _ (passed _ c.if-not-regs.false) c.follow-at.ensures
+returns c = rw c.ends-2.ensures (narrow-is _ _ _ _ _ c.requires.fine _ _ c.in-Some.is c.follow-at.ensures)

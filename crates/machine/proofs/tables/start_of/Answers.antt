@@ -3,4 +3,4 @@ use native.Mathlib.Omega.{arith}
 use Rattle.machine.proofs.tables.start_of.Goals as goal
 
 pub returns : goal.returns
-returns c = start_is _ _ _ _ _ (omega (arith, c.struct_known-1.given)) c.get_rest-low.ensures c.get_rest-high.ensures
+returns c = start_is _ _ _ _ _ (omega (arith, c.struct_known-1.given)) c.rest-low.ensures c.rest-high.ensures

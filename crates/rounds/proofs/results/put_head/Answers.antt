@@ -1,19 +1,6 @@
-use native.Mathlib.Omega.{arith}
-use lib.ListN.{length-set}
+use mathlib.Core.Path.{◌∙◌}
 use Rattle.rounds.proofs.Records.{headed-is}
 use Rattle.rounds.proofs.results.put_head.Goals as goal
 
-pub bounds-out-at-2 : goal.bounds-out-at-2
-bounds-out-at-2 c = simp length-set (omega arith)
-
-pub bounds-out-at-3 : goal.bounds-out-at-3
-bounds-out-at-3 c = simp length-set (omega arith)
-
-pub bounds-out-at-4 : goal.bounds-out-at-4
-bounds-out-at-4 c = simp length-set (omega arith)
-
-pub bounds-out-at-5 : goal.bounds-out-at-5
-bounds-out-at-5 c = simp length-set (omega arith)
-
 pub returns : goal.returns
-returns c = headed-is _ _ _
+returns c = headed-is _ _ _ _ c.requires.0 (c.copy_from_slice.ensures.after ∙ c.to_le_bytes.ensures)

@@ -1,26 +1,28 @@
-use mathlib.Core.Path.{◌∙◌}
-use Rattle.alternatives.proofs.Rounds.{refused, passed}
+use Rattle.run.proofs.Lending.{lend-bounded, lend-runs, lent-run}
+use Rattle.store.proofs.Became.{loan_then}
+use borrow.Author.Rules.{rules}
 use Rattle.run.proofs.Opening.{build-asks, ask-none-at, push-asks, run-asks, ask-run}
 use Rattle.run.proofs.asks.ask.Goals as goal
 
-pub build_question-b-requires : goal.build_question-b-requires
-build_question-b-requires c = let a = build-asks _ _ _ _ _ c.requires.roomy _ c.clear.ensures c.requires.asks in record { space = a.0; asked_of = a.1 }
+pub build_question-requires : goal.build_question-requires
+build_question-requires c = let a = build-asks _ _ _ _ _ c.requires.roomy _ c.clear.ensures.fresh c.requires.asks in let e = c.clear.ensures.loan.limit in record { space = rw e a.0; asked_of = rw e a.1 }
 
-pub returns-then-not-b : goal.returns-then-not-b
-returns-then-not-b c = ask-none-at _ _ _ _ _ c.requires.roomy _ c.clear.ensures _ _ c.build_question-b.ensures (refused _ c.if-not-b.true) _ c.opening-none.ensures
+pub returns-in_default : goal.returns-in_default
+returns-in_default c = ask-none-at _ _ _ _ _ c.requires.roomy _ c.clear.ensures.fresh _ _ (rw c.clear.ensures.loan.limit at c.build_question.ensures.asked) c.in_default.is _ (search rules)
 
 pub push-requires : goal.push-requires
 push-requires c =
-    let a = push-asks _ _ _ _ _ c.requires.roomy _ c.clear.ensures _ _ c.build_question-b.ensures (passed _ c.if-not-b.false) c.requires.asks in
-    record { all_room = a.0; head_lt_places = a.1.0; sized = a.1.1 }
+    let a = push-asks _ _ _ _ _ c.requires.roomy _ c.clear.ensures.fresh _ _ (rw c.clear.ensures.loan.limit at c.build_question.ensures.asked) _ c.in-Some.is c.requires.asks in
+    record { all_room = rw (loan_then c.clear.ensures.loan c.build_question.ensures.loan).limit a.0; head_lt_places = a.1.0; sized = a.1.1 }
 
 pub run_from-requires : goal.run_from-requires
 run_from-requires c =
-    let a = run-asks _ _ _ _ _ c.requires.roomy _ c.clear.ensures _ _ c.build_question-b.ensures (passed _ c.if-not-b.false) _ c.push.ensures _ c.opening-st.ensures c.requires.asks c.requires.code_len_bound in
-    record { bounded = a.0; code_len_bound = a.1.0; runs = a.1.1 }
-
-pub shape_of-work : goal.shape_of-work
-shape_of-work c = c.run_from.auto.work ∙ c.push.auto.s ∙ c.build_question-b.auto.s ∙ c.clear.auto.s
+    let a = run-asks _ _ _ _ _ c.requires.roomy _ c.clear.ensures.fresh _ _ (rw c.clear.ensures.loan.limit at c.build_question.ensures.asked) _ c.in-Some.is _ (rw (loan_then c.clear.ensures.loan c.build_question.ensures.loan).limit at c.push.ensures.pushed) _ (search rules) c.requires.asks c.requires.code_len_bound in
+    record {
+      bounded = (lend-bounded (search rules) a.0.0, a.0.1);
+      code_len_bound = a.1.0;
+      runs = lend-runs (search rules) a.1.1;
+    }
 
 pub returns : goal.returns
-returns c = ask-run _ _ _ _ _ c.requires.roomy _ c.clear.ensures _ _ c.build_question-b.ensures (passed _ c.if-not-b.false) _ c.push.ensures _ c.opening-st.ensures _ _ c.run_from.ensures
+returns c = ask-run _ _ _ _ _ c.requires.roomy _ c.clear.ensures.fresh _ _ (rw c.clear.ensures.loan.limit at c.build_question.ensures.asked) _ c.in-Some.is _ (rw (loan_then c.clear.ensures.loan c.build_question.ensures.loan).limit at c.push.ensures.pushed) _ (search rules) _ _ (lent-run (search rules) c.run_from.ensures)

@@ -1,0 +1,6 @@
+use mathlib.Core.Path.{refl}
+use Rattle.store.proofs.Writes.{did-mark}
+use Rattle.store.proofs.whole.Store.put_mark.Goals as goal
+
+pub returns : goal.returns
+returns c = record { loan = record { limit = refl; lent = refl }; did = did-mark _ _ _ _ _ c.requires c.put.ensures }

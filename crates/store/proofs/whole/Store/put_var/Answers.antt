@@ -1,0 +1,6 @@
+use mathlib.Core.Path.{refl}
+use Rattle.store.proofs.Writes.{did-var}
+use Rattle.store.proofs.whole.Store.put_var.Goals as goal
+
+pub returns : goal.returns
+returns c = record { loan = record { limit = refl; lent = refl }; did = did-var _ _ _ _ c.requires c.args.self.now.room.1 c.put.ensures }
