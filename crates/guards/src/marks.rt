@@ -21,8 +21,10 @@ pub struct Guarded<const N: usize> {
 }
 
 impl<const N: usize> Guarded<N> {
+    // A memory of zeros, of which nothing is lent yet.
     pub fn new() -> Self
         requires { 128 ≤ N }
+        ensures { result.lent ≡ 0 }
     {
         Guarded {
             bytes: [0; N],

@@ -4,7 +4,7 @@
 
 ghost use Rattle.std.specs.Prelude.{ℕ, ◌≤◌, ◌<◌, ◌≡◌, true, false, length, take, IfOk, IfErr};
 ghost use Rattle.std.specs.Io.KnownBytes.{Consumes, IsAtEnd};
-ghost use Rattle.input.specs.Reading.{Lost, Gone};
+ghost use Rattle.input.specs.Reading.{Lost, Gone, Short};
 
 use std::io;
 use std::io::Read;
@@ -32,7 +32,7 @@ pub fn read_full<R: Read>(input: &mut R, buf: &mut [u8]) -> io::Result<usize>
 // Passes over n bytes; whether there are as many. An error is the reader's.
 pub fn skip<R: Read>(input: &mut R, n: usize) -> io::Result<bool>
     ensures whole { IfOk result (λ whole. whole ≡ true → Gone n (R.remaining input.old) (R.remaining input.new)) }
-    ensures end { IfOk result (λ whole. whole ≡ false → IsAtEnd (R.remaining input.new)) }
+    ensures end { IfOk result (λ whole. whole ≡ false → Short n (R.remaining input.old) (R.remaining input.new)) }
     ensures lost { Lost (R.remaining input.old) (R.remaining input.new) }
 {
     let mut chunk = [0u8; 4096];
