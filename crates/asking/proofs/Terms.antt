@@ -115,7 +115,11 @@ taken_step L base d j v s l l' h h' g e f u =
     let w : List ℕ = drop k (rest_of L s) in
     roots-step l l' (terms_of d w) j v (omega arith) (omega (arith, terms-long d w)) e f (u ∙ sym (get_or-drop {A = ℕ} k (rest_of L s) (d - 1 - j) 0) ∙ sym (terms-at d j w g))
 
--- a graph at the first numbers: one node more
+-- a graph at the first numbers: none, and one node more
+pub over-long : (g nodes : Graph) → length g ≤ length nodes → length (over g nodes) ≡ length nodes
+unfolding over
+over-long g nodes h = simp (length-append, length-drop) (omega arith)
+
 pub over-set : (g nodes : Graph) (x : Node) → length g < length nodes → set (over g nodes) (length g) x ≡ over (g ++ x ∷ []) nodes
 unfolding over
 over-set g nodes x h =

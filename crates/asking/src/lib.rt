@@ -5,11 +5,12 @@ ghost use Rattle.std.specs.Prelude.{◌≡◌, ℕ, suc, ◌+◌, ◌*◌, ◌<�
 ghost use Rattle.heap.specs.Build.{up_from};
 ghost use Rattle.store.specs.Rows.{symbol_of};
 ghost use Rattle.store.specs.Roots.{roots_of};
-ghost use Rattle.store.specs.Whole.{rest, SameLoan};
+ghost use Rattle.store.specs.Regions.{rest_of};
+ghost use Rattle.store.specs.Whole.{SameLoan};
 ghost use Rattle.asking.specs.Question.{Space, AskedOf, pre_terms, cells, symbol_at, arity_by, CanStep, Stepped, VarsPut, WalkDone, Asked};
 
 use book::{ConNo, FunNo, Kind};
-use store::{Head, NodeNo, Roots, Store};
+use store::{Head, NodeNo, Roots, Store, View};
 
 // How far the walk over the records is: nodes made, handles pending.
 #[derive(Clone, Copy)]
@@ -51,9 +52,9 @@ pub fn put_vars(store: &mut Store, vars: usize)
 }
 
 // How many arguments a symbol takes, by the tables.
-pub fn arity_of(store: &Store, base: usize, head: Head) -> u16
-    requires { Space store.now.limit base store.now.bytes.now }
-    ensures { result ≡ arity_by base (rest store.now) (symbol_of head) }
+pub fn arity_of(store: View, base: usize, head: Head) -> u16
+    requires { Space store.limit base store.bytes.now }
+    ensures { result ≡ arity_by base (rest_of store.entry.limit store.entry.bytes.now) (symbol_of head) }
 {
     match head {
         Head::Makes(c) => store.rest(base + 768 + c.0 as usize),
@@ -73,10 +74,10 @@ pub fn head_of(kind: u8, n: u8) -> Head
 }
 
 // The first of the pending handles, the last that came first.
-pub fn take_terms(store: &Store, base: usize, depth: usize, a: u16) -> [u16; 8]
-    requires space { Space store.now.limit base store.now.bytes.now }
+pub fn take_terms(store: View, base: usize, depth: usize, a: u16) -> [u16; 8]
+    requires space { Space store.limit base store.bytes.now }
     requires a_bound { (a ≤ 8) × (a ≤ depth) × (depth ≤ 320) }
-    ensures { take a result ≡ take a (pre_terms store.now.limit base store.now.bytes.now depth) }
+    ensures { take a result ≡ take a (pre_terms store.entry.limit base store.entry.bytes.now depth) }
 {
     let mut args = [0; 8];
     let n = a as usize;
@@ -102,8 +103,9 @@ pub fn step(store: &mut Store, base: usize, kind: u8, n: u8, w: Walk) -> Walk
         };
     }
     let head = head_of(kind, n);
-    let a = arity_of(store, base, head);
-    let args = take_terms(store, base, depth, a);
+    let view = store.view();
+    let a = arity_of(view, base, head);
+    let args = take_terms(view, base, depth, a);
     let node = made as u16;
     store.put_cell(NodeNo(node), head, args, a);
     let d = depth - a as usize;

@@ -32,7 +32,7 @@ pub fn read_funcs(
         }
         let by = r.end;
         let slots = arguments(r.a as usize);
-        match read_tree(&s[by..], s, types, cons, funcs, slots, 0) {
+        match read_tree(&s[by..], s, types, cons, funcs, &slots, 0) {
             Ok(e) => at = by + e,
             Err(f) => return Err(Fault { at: by + f.at, ..f }),
         }

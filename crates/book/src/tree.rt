@@ -3,7 +3,7 @@
 // Not here: the terms of a RULE (term), the functions (shelf).
 ghost use Rattle.std.specs.Prelude.{◌≡◌, ◌+◌, ◌*◌, ◌≤◌, length, replicate};
 ghost use Rattle.book.specs.Reading.{all_fit};
-ghost use Rattle.book.specs.Steps.{types_of, Front, Lore, cons_from, live, Kept, CanSplit, SplitIs, IsUnder, AllFit, TreeIs, TreesIs};
+ghost use Rattle.book.specs.Steps.{types_of, Front, Lore, cons_from, live, Kept, CanSplit, SplitIs, AreSplit, IsUnder, AllFit, TreeIs, TreesIs};
 
 use crate::front::type_at;
 use crate::record::rec_at;
@@ -18,17 +18,28 @@ pub fn arguments(n: usize) -> Slots
     Slots { n, depth: [1; 64] }
 }
 
-// The slots of the child for a constructor of arity a.
-pub fn under(slots: Slots, slot: usize, a: usize) -> Slots
-    requires { CanSplit slots slot × (slots.n + a ≤ 64) }
-    ensures { IsUnder slots slot a result }
+// What the children of a SPLIT have alike: the tree's slots, the slot split.
+fn split_slots(slots: &Slots, slot: usize) -> Slots
+    requires { CanSplit slots.now slot }
+    ensures { AreSplit slots.now slot result }
+{
+    let mut child = *slots;
+    let depth = &mut child.depth;
+    depth[slot] = 8;
+    child
+}
+
+// A child's slots become those of the child for a constructor of arity a.
+pub fn under(slots: &Slots, slot: usize, a: usize, child: &mut Slots)
+    requires can_split { CanSplit slots.now slot × (slots.now.n + a ≤ 64) }
+    requires are_split { AreSplit slots.now slot child.old }
+    ensures { IsUnder slots.now slot a child.new × AreSplit slots.now slot child.new }
 {
     let n = slots.n;
-    let mut depth = slots.depth;
-    let d = depth[slot];
-    depth[slot] = 8;
+    let d = slots.depth[slot];
+    child.n = n + a;
+    let depth = &mut child.depth;
     depth[n..n + a].fill(d + 1);
-    Slots { n: n + a, depth }
 }
 
 // Whether the children for the n CONS records at a place have at most 64 slots.
@@ -45,9 +56,9 @@ pub fn all_fit(s: &[u8], cons: usize, n: usize, have: usize) -> bool
 }
 
 // The type by which a slot is split, if it can be.
-pub fn splits(s: &[u8], types: usize, slots: Slots, slot: usize, ty: TypeNo) -> Option<TypeInfo>
-    requires { Front s.now types × Kept slots }
-    ensures { SplitIs s.now slots slot ty.0 result }
+pub fn splits(s: &[u8], types: usize, slots: &Slots, slot: usize, ty: TypeNo) -> Option<TypeInfo>
+    requires { Front s.now types × Kept slots.now }
+    ensures { SplitIs s.now slots.now slot ty.0 result }
 {
     if slots.n <= slot {
         return None;
@@ -74,11 +85,11 @@ pub fn read_tree(
     types: usize,
     cons: &[u8],
     funcs: &[u8],
-    slots: Slots,
+    slots: &Slots,
     at: usize,
 ) -> Result<usize, Fault>
-    requires { Lore book.now cons.now types × Kept slots }
-    ensures { TreeIs s.now (types_of book.now) funcs.now (live slots) at result }
+    requires { Lore book.now cons.now types × Kept slots.now }
+    ensures { TreeIs s.now (types_of book.now) funcs.now (live slots.now) at result }
 {
     let r = rec_at(s, at)?;
     match r.kind {
@@ -114,7 +125,8 @@ pub fn read_tree(
     }
 }
 
-// A tree for each of the n CONS records at `first`, under a SPLIT of the slot.
+// A tree for each of the n CONS records at `first`, under a SPLIT of the slot. (A part of read_tree: so a tree's level takes one frame of stack.)
+#[inline(always)]
 #[cycle(read_tree_read_trees)]
 pub fn read_trees(
     s: &[u8],
@@ -122,20 +134,22 @@ pub fn read_trees(
     types: usize,
     cons: &[u8],
     funcs: &[u8],
-    slots: Slots,
+    slots: &Slots,
     slot: usize,
     first: usize,
     n: usize,
     from: usize,
 ) -> Result<usize, Fault>
-    requires lore { Lore book.now cons.now types × CanSplit slots slot }
-    requires all_fit { AllFit book.now slots.n first n }
-    ensures { TreesIs s.now (types_of book.now) funcs.now (live slots) slot (cons_from book.now first n) from result }
+    requires lore { Lore book.now cons.now types × CanSplit slots.now slot }
+    requires all_fit { AllFit book.now slots.now.n first n }
+    ensures { TreesIs s.now (types_of book.now) funcs.now (live slots.now) slot (cons_from book.now first n) from result }
 {
+    let mut child = split_slots(slots, slot);
     let mut at = from;
     for i in 0..n {
         let a = book[first + 2 * i + 1] as usize;
-        at = read_tree(s, book, types, cons, funcs, under(slots, slot, a), at)?;
+        under(slots, slot, a, &mut child);
+        at = read_tree(s, book, types, cons, funcs, &child, at)?;
     }
     Ok(at)
 }

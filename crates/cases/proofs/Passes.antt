@@ -1,6 +1,6 @@
 -- Laws of the first pass by parts: two parts one behind the other are passed as the whole, and the pass over all bytes finds what book's first pass finds.
 -- Assumes nothing.
-use Prim.Native.Nat.{ℕ, zero, suc, ◌+◌, ◌≤◌, ◌<◌}
+use Prim.Native.Nat.{ℕ, zero, suc, ◌+◌, ◌-◌, ◌≤◌, ◌<◌}
 use mathlib.Core.Path.{◌≡◌, refl, ap, sym, ◌∙◌}
 use mathlib.Core.Bool.{Bool, true, false}
 use mathlib.Core.List.{List, [], ◌∷◌, ◌++◌}
@@ -41,6 +41,12 @@ pass-one p s k h = rw (add-one, drop-cons s k 0)
 pub pass-end : (p : Passed) (s : List ℕ) (k : ℕ) → length s ≤ k → passed p (drop k s) ≡ p
 unfolding passed
 pass-end p s k h = rw (drop_of_length-le s h)
+
+-- a body's byte that is not the last
+pub due-more : (k m e : ℕ) → (m ≡ 0 → ⊥) → Begun k (m - 1) (e + 1) ≡ due k m e
+unfolding due
+due-more k zero e n = absurd (n refl)
+due-more k (suc m) e n = let z : suc m - 1 ≡ m = omega arith in rw z
 
 -- a byte brings the pass at most one place on
 reach-begun : (k : ℕ) (o : Option ℕ) → reach (begun k o) ≤ k + 1

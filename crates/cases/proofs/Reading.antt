@@ -189,6 +189,12 @@ module _ (old part : List ℕ) (m : ℕ) (k : length part ≡ length (take m old
   as_long : length (part ++ drop m old) ≡ length old
   as_long = length_front old part m k
 
+  pub part-long : m ≡ length (take m (part ++ drop m old))
+  part-long = let a = as_long in sym (length-take-le m (part ++ drop m old) (omega arith))
+
+  pub part_of : (771 ≤ length old) × (q < 4294967296) → PartOf (take m (part ++ drop m old)) q
+  part_of h = let t = part-long in record { fits = omega arith; short = h.1; enough = λ d. omega arith }
+
   pub part-shown : (x : Option Question) → QuestionIs (take m (part ++ drop m old)) q x → QuestionIs (part ++ drop m old) q x
   part-shown x s = let a = as_long in shown-in (part ++ drop m old) q m x (omega arith) s
 

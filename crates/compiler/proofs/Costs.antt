@@ -1,17 +1,19 @@
 -- What each record of the book brings of code, as the lore gives it, and the walk over all of them.
-use Prim.Native.Nat.{ℕ, ◌+◌, ◌≤◌, ◌<◌}
+use Prim.Native.Nat.{ℕ, suc, ◌+◌, ◌-◌, ◌*◌, ◌≤◌, ◌<◌}
 use native.Mathlib.Nat.{add-zero, zero-add}
+use native.Mathlib.Numerals.{add-one}
 use native.Mathlib.Omega.{arith}
 use mathlib.Core.Path.{◌≡◌, refl, ap, sym, ◌∙◌, subst}
 use mathlib.Core.List.{List, [], ◌∷◌, ◌++◌, map}
-use lib.ListN.{length, get_or, drop, length-append, length-drop, drop_of_length-le}
-use borrow.Author.Tests.{ne_eqb, lt-ltb, le-ltb}
+use lib.ListN.{length, get_or, take, drop, length-append, length-drop, drop_of_length-le}
+use lib.Seq.{drop-cons}
+use borrow.Author.Tests.{eq-eqb, ne_eqb, lt-ltb, le-ltb}
 use Rattle.book.specs.Syntax.{con, fun, Term, Terms, app, slot, fresh, done, arg, Right, Tree, Trees, split, rule, norule, stop, child, Func, arity, Book, cons_of}
 use Rattle.book.specs.Accepted.{FineTree, FineTrees, FineBook}
 use Rattle.book.proofs.Acceptance.{book-fine, book-short}
 use Rattle.engine.specs.Compile.{compile}
 use Rattle.compiler.specs.declared.Lore.{Lore}
-use Rattle.compiler.specs.Records.{Rcd, a_type, a_cons, a_func, a_split, a_rule, a_right, a_symbol, a_slot, a_fresh, a_none, bytes_of, bytes, term_recs, terms_recs, rights_recs, tree_recs, trees_recs, funcs_recs, types_recs, book_recs, cost, costs}
+use Rattle.compiler.specs.Records.{Rcd, a_type, a_cons, a_func, a_split, a_rule, a_right, a_symbol, a_slot, a_fresh, a_none, bytes_of, bytes, term_recs, terms_recs, rights_recs, tree_recs, trees_recs, funcs_recs, types_recs, book_recs, arm_cost, cost, costs}
 use Rattle.compiler.specs.Rows.{width_at, arm_at, split_at, cost_at}
 use Rattle.compiler.specs.Here.{FineRcd, RcdHere, Surveyed}
 use Rattle.compiler.proofs.Bytes.{book-bytes}
@@ -19,11 +21,45 @@ use Rattle.compiler.proofs.Terms.{head-is, two-are, skipped}
 use Rattle.compiler.proofs.Splits.{first_fits, lore-part}
 use Rattle.compiler.proofs.Lengths.{code-cost, fine-all, FineAll}
 
+pub arm_more : (cons : List ℕ) (c n : ℕ) → 0 < n → c + n ≤ length cons → arm_at cons c n ≡ get_or cons c 0 + 3 + arm_at cons (c + 1) (n - 1)
+unfolding arm_at
+arm_more cons c n h q =
+    let e : n ≡ suc (n - 1) = omega arith in
+    let d : drop c cons ≡ get_or cons c 0 ∷ drop (suc c) cons = drop-cons cons c 0 (omega arith) in
+    ap (λ (k : ℕ). arm_cost (take k (drop c cons))) e ∙ rw (d, add-one c)
+
+pub arm_end : (cons : List ℕ) (c n : ℕ) → n ≤ 0 → arm_at cons c n ≡ 1
+unfolding arm_at
+arm_end cons c n h = let e : n ≡ 0 = omega arith in rw e
+
 pub cost-rule : (n : ℕ) → (n ≡ 1 → ⊥) → cost_at 5 n ≡ 1
 unfolding cost_at
 cost-rule n h = rw (cost_at, ne_eqb n 1 h)
 
 module _ (kind n : ℕ) where
+  pub cost-rule-one : kind ≡ 5 → n ≡ 1 → cost_at kind n ≡ 2
+  unfolding cost_at
+  cost-rule-one p q = rw (eq-eqb kind 5 p, cost_at, eq-eqb n 1 q)
+
+  pub cost-right : (kind ≡ 5 → ⊥) → kind ≡ 6 → cost_at kind n ≡ 2 * n
+  unfolding cost_at
+  cost-right p q = rw (ne_eqb kind 5 p, cost_at, eq-eqb kind 6 q)
+
+  module _ (p : kind ≡ 5 → ⊥) (q : kind ≡ 6 → ⊥) where
+    pub cost-slot : kind ≡ 9 → cost_at kind n ≡ 11
+    unfolding cost_at
+    cost-slot r = rw (ne_eqb kind 5 p, cost_at, ne_eqb kind 6 q, eq-eqb kind 9 r)
+
+    module _ (r : kind ≡ 9 → ⊥) where
+      pub cost-fresh : kind ≡ 10 → cost_at kind n ≡ 2
+      unfolding cost_at
+      cost-fresh s = rw (ne_eqb kind 5 p, cost_at, ne_eqb kind 6 q, ne_eqb kind 9 r, eq-eqb kind 10 s)
+
+      module _ (s : kind ≡ 10 → ⊥) where
+        pub cost-none : kind ≡ 11 → cost_at kind n ≡ 1
+        unfolding cost_at
+        cost-none u = rw (ne_eqb kind 5 p, cost_at, ne_eqb kind 6 q, ne_eqb kind 9 r, ne_eqb kind 10 s, eq-eqb kind 11 u)
+
   pub cost-front : kind < 5 → cost_at kind n ≡ 0
   unfolding cost_at
   cost-front v = rw (ne_eqb kind 5 (λ z. omega arith), cost_at, ne_eqb kind 6 (λ z. omega arith), ne_eqb kind 9 (λ z. omega arith), ne_eqb kind 10 (λ z. omega arith), ne_eqb kind 11 (λ z. omega arith), lt-ltb kind 7 (omega arith))
@@ -31,6 +67,14 @@ module _ (kind n : ℕ) where
   pub cost-symbol : 7 ≤ kind → (kind ≡ 9 → ⊥) → (kind ≡ 10 → ⊥) → (kind ≡ 11 → ⊥) → cost_at kind n ≡ 3
   unfolding cost_at
   cost-symbol v r s u = rw (ne_eqb kind 5 (λ z. omega arith), cost_at, ne_eqb kind 6 (λ z. omega arith), ne_eqb kind 9 r, ne_eqb kind 10 s, ne_eqb kind 11 u, le-ltb kind 7 v)
+
+pub width-split : (kind : ℕ) → kind ≡ 4 → width_at kind ≡ 3
+unfolding width_at
+width-split kind p = rw (eq-eqb kind 4 p, width_at)
+
+pub width-none : (kind : ℕ) → (kind ≡ 4 → ⊥) → kind ≡ 11 → width_at kind ≡ 1
+unfolding width_at
+width-none kind p q = rw (ne_eqb kind 4 p, width_at, eq-eqb kind 11 q)
 
 pub width_two : (kind : ℕ) → (kind ≡ 4 → ⊥) → (kind ≡ 11 → ⊥) → width_at kind ≡ 2
 unfolding width_at

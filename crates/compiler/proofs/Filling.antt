@@ -14,16 +14,18 @@ use borrow.Author.Tests.{ltb-true, ltb-false}
 use Rattle.std.specs.Prelude.{Result, Ok, Err}
 use Rattle.book.specs.Syntax.{arity, join, con_arities, cons_of, first_con}
 use Rattle.book.specs.Steps.{BookRead, BookIs}
+use Rattle.book.specs.Facts.{HomeIs}
 use Rattle.book.specs.Accepted.{FineTypes, FineBook}
 use Rattle.book.specs.declared.Fault.{Fault}
 use Rattle.book.specs.declared.Sizes.{Sizes}
+use Rattle.book.specs.declared.Home.{Home}
 use Rattle.book.proofs.Acceptance.{book-fine}
 use Rattle.engine.specs.Machine.{members, homes}
 use Rattle.compiler.specs.declared.Lore.{Lore}
 use Rattle.compiler.specs.Records.{a_cons, bytes, types_recs}
 use Rattle.compiler.specs.Rows.{LoreIs}
 use Rattle.compiler.specs.Here.{TypesKnown, TypesNoted}
-use Rattle.compiler.specs.Tables.{HomeOf, front_at, BookKnown, SurveyIs}
+use Rattle.compiler.specs.Tables.{HomeOf, ConsKnown, front_at, BookKnown, SurveyIs}
 use Rattle.compiler.proofs.Bytes.{bytes-append}
 
 -- an arity from a table that begins with all of them
@@ -116,6 +118,9 @@ front-is types funcs lore t (suc n) h =
 
 pub front-all : (types : List (List ℕ)) (funcs : List ℕ) (lore : Lore) (n : ℕ) → LoreIs types funcs lore → length types ≡ n → front_at lore n ≡ length (bytes (types_recs types))
 front-all types funcs lore n t q = front-is types funcs lore t n (omega arith) ∙ ap (λ (ts : List (List ℕ)). length (bytes (types_recs ts))) (take_all n types (omega arith))
+
+pub home-small : (s : List ℕ) (n c : ℕ) → ConsKnown s n → (r : Home) → HomeIs s c r → (r.ty < 65536) × (r.arm < 65536)
+home-small s n c k r h = (omega (arith, h.there, k.few), omega (arith, h.below, k.each r.ty h.there))
 
 -- a constructor's home by the machine's definition
 members-front : (cons : List ℕ) (t j c : ℕ) (rest : List (ℕ × ℕ)) → c < length cons → get_elem? (members t j cons ++ rest) c ≡ some (t, j + c)

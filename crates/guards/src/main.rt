@@ -85,8 +85,12 @@ fn answer<R: Read, W: Write>(
     let question = &kept.question[..asked.shown];
     let o = run_between(case.limits, book, question, asked.pass, m);
     let a = check_all(out, book, m, o)?;
-    let b = say(out, kept.book == was.book, b"book; ")?;
-    let c = say(out, kept.question == was.question, b"question; ")?;
+    let b = say(out, book == &was.book[..book.len()], b"book; ")?;
+    let c = say(
+        out,
+        question == &was.question[..question.len()],
+        b"question; ",
+    )?;
     finish(out, a && b && c)
 }
 

@@ -20,12 +20,29 @@ use Rattle.machine.proofs.Runs.{ended}
 use Rattle.machine.specs.declared.Regs.{Regs}
 use Rattle.machine.specs.declared.Ended.{Ended}
 use Rattle.machine.specs.declared.Op.{Op}
+use Rattle.machine.specs.declared.Op.TheVariants.{Load, Branch, Go, Push, Pop, MakeAnon, StoreVar, MakeVar, MakeTerm, Replace, Narrow, Choice, Fail, Wrong}
 use Rattle.machine.specs.declared.Stop.TheVariants.{Broken}
 use Rattle.std.specs.Prelude.{Result, Ok, Err}
 
 -- an operation by its constructor
 pub as-op : (at : ℕ) {L base : ℕ} {code : List ℕ} {r : Regs} {s s' : List ℕ} {a : Result Regs Ended} {o op : Op} → op ≡ o → Went L base code r s s' a (λ p. run_on p (op_of code at o) (state_of L base code r s)) → Went L base code r s s' a (λ p. run_on p (op_of code at op) (state_of L base code r s))
 as-op at {L} {base} {code} {r} {s} e w = went-as (λ p h u. ap (λ (x : Op). run_on p (op_of code at x) (state_of L base code r s)) e) w
+
+pub width_small : (o : Op) → width_of o ≤ 10
+width_small (Load n) = omega arith
+width_small (Branch t) = omega arith
+width_small Go = omega arith
+width_small Push = omega arith
+width_small Pop = omega arith
+width_small MakeAnon = omega arith
+width_small (StoreVar v) = omega arith
+width_small (MakeVar v) = omega arith
+width_small (MakeTerm h) = omega arith
+width_small Replace = omega arith
+width_small Narrow = omega arith
+width_small Choice = omega arith
+width_small Fail = omega arith
+width_small Wrong = omega arith
 
 -- a step
 module _ (L base : ℕ) (code : List ℕ) (r : Regs) (s : List ℕ) (fine : Fine r) where

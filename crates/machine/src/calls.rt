@@ -7,7 +7,7 @@ ghost use Rattle.machine.specs.Drive.{Topped, Settled};
 
 use crate::{Ended, Regs, Stop, ops, steps, tables};
 use book::FunNo;
-use store::{NodeNo, Seen, Store};
+use store::{NodeNo, Seen, Store, View};
 
 // Which function what is seen calls.
 fn called(k: Seen) -> Option<FunNo>
@@ -31,18 +31,19 @@ pub fn on_top(store: &mut Store, base: usize, code: &[u8], top: u16, made: usize
     if top == 0 {
         return Ended { regs, stop };
     }
-    let at = store.follow(NodeNo(top - 1));
-    let k = ops::node_at(store, at);
+    let view = store.view();
+    let at = view.follow(NodeNo(top - 1));
+    let k = ops::node_at(view, at);
     let Some(f) = called(k) else {
         return Ended { regs, stop };
     };
-    let pc = tables::start_of(store, base, f);
+    let pc = tables::start_of(view, base, f);
     steps::exec(store, base, code, Regs { pc, ..regs }, code.len())
 }
 
 // The stack's top without the constructors and variables there.
-pub fn settle(store: &Store, top: u16) -> u16
-    ensures { Settled store.now.limit store.now.bytes.now top result }
+pub fn settle(store: View, top: u16) -> u16
+    ensures { Settled store.entry.limit store.entry.bytes.now top result }
 {
     let mut t = top;
     for _ in 0..store.limit {

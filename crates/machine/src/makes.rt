@@ -145,7 +145,7 @@ pub fn make_term(
     ensures loan { SameLoan store.old store.new }
     ensures went { Went store.old.limit base code.now regs store.old.bytes.now store.new.bytes.now result (λ p. run_on p (c.make_term (symbol_of head)) (state_of store.old.limit base code.now regs store.old.bytes.now)) }
 {
-    let count = tables::arity(store, base, head);
+    let count = tables::arity(store.view(), base, head);
     let n = count as usize;
     if n > 8 || n > regs.terms {
         return regs.ends(Stop::Broken);

@@ -3,7 +3,7 @@
 ghost use Rattle.std.specs.Prelude.{◌≡◌, ◌+◌, ◌-◌, ◌<◌, ◌≤◌, take, drop};
 ghost use Rattle.heap.specs.Graph as g;
 ghost use Rattle.store.specs.Rows.{seen};
-ghost use Rattle.store.specs.Whole.{graph};
+ghost use Rattle.store.specs.Regions.{graph_of};
 ghost use Rattle.engine.specs.Code as c;
 ghost use Rattle.engine.specs.Machine as m;
 ghost use Rattle.machine.specs.Tables.{Space, code_bound};
@@ -11,11 +11,11 @@ ghost use Rattle.machine.specs.View.{cur_of, child_of, state_of};
 ghost use Rattle.machine.specs.Contract.{run_on, Fine, Went};
 
 use crate::{Ended, Regs, Stop, code, tables};
-use store::{NodeNo, Seen, Store};
+use store::{NodeNo, Seen, View};
 
 // What stands at a node; beyond the nodes, a variable.
-pub fn node_at(store: &Store, n: NodeNo) -> Seen
-    ensures { result ≡ seen (g.node (graph store.now) n.0) }
+pub fn node_at(store: View, n: NodeNo) -> Seen
+    ensures { result ≡ seen (g.node (graph_of store.entry.limit store.entry.bytes.now) n.0) }
 {
     if n.0 as usize >= store.limit {
         return Seen::Var;
@@ -24,8 +24,8 @@ pub fn node_at(store: &Store, n: NodeNo) -> Seen
 }
 
 // The argument of a node that a position's step leads to, counted from 1.
-pub fn child(store: &Store, n: NodeNo, step: u8) -> Option<NodeNo>
-    ensures { cur_of result ≡ child_of (graph store.now) n.0 step }
+pub fn child(store: View, n: NodeNo, step: u8) -> Option<NodeNo>
+    ensures { cur_of result ≡ child_of (graph_of store.entry.limit store.entry.bytes.now) n.0 step }
 {
     let at = store.follow(n);
     let count = node_at(store, at).count();
@@ -47,9 +47,9 @@ fn steps_of(code: &[u8], from: usize, count: u8) -> &[u8]
 }
 
 // The node at a position under a node: its steps are `count` bytes of the code.
-pub fn walk(store: &Store, code: &[u8], from: usize, count: u8, n: NodeNo) -> Option<NodeNo>
+pub fn walk(store: View, code: &[u8], from: usize, count: u8, n: NodeNo) -> Option<NodeNo>
     requires from_bound { from ≤ code_bound + 16 }
-    ensures { cur_of result ≡ m.at (graph store.now) n.0 (take count (drop from code.now)) }
+    ensures { cur_of result ≡ m.at (graph_of store.entry.limit store.entry.bytes.now) n.0 (take count (drop from code.now)) }
 {
     let mut h = n;
     let steps = steps_of(code, from, count);
@@ -61,17 +61,17 @@ pub fn walk(store: &Store, code: &[u8], from: usize, count: u8, n: NodeNo) -> Op
 
 // LOAD: the node at a position under the stack's top becomes the current one.
 pub fn load(
-    store: &Store,
+    store: View,
     base: usize,
     code: &[u8],
     regs: Regs,
     from: usize,
     count: u8,
 ) -> Result<Regs, Ended>
-    requires space { Space store.now.limit base store.now.bytes.now }
+    requires space { Space store.limit base store.bytes.now }
     requires fine { Fine regs }
     requires from_bound { from ≤ code_bound + 16 }
-    ensures { Went store.now.limit base code.now regs store.now.bytes.now store.now.bytes.now result (λ p. run_on p (c.load (take count (drop from code.now))) (state_of store.now.limit base code.now regs store.now.bytes.now)) }
+    ensures { Went store.entry.limit base code.now regs store.entry.bytes.now store.entry.bytes.now result (λ p. run_on p (c.load (take count (drop from code.now))) (state_of store.entry.limit base code.now regs store.entry.bytes.now)) }
 {
     if regs.top == 0 {
         return regs.ends(Stop::Broken);
@@ -87,11 +87,11 @@ pub fn load(
 
 // BRANCH by the current node: a call is walked instead, a constructor of the type leads to its GO, one of another type is a
 // misfit, a variable leads to the first GO.
-pub fn branch(store: &Store, base: usize, code: &[u8], regs: Regs, t: u8) -> Result<Regs, Ended>
-    requires space { Space store.now.limit base store.now.bytes.now }
+pub fn branch(store: View, base: usize, code: &[u8], regs: Regs, t: u8) -> Result<Regs, Ended>
+    requires space { Space store.limit base store.bytes.now }
     requires fine { Fine regs }
     requires pc_bound { regs.pc ≤ code_bound + 16 }
-    ensures { Went store.now.limit base code.now regs store.now.bytes.now store.now.bytes.now result (λ p. run_on p (c.branch t) (state_of store.now.limit base code.now regs store.now.bytes.now)) }
+    ensures { Went store.entry.limit base code.now regs store.entry.bytes.now store.entry.bytes.now result (λ p. run_on p (c.branch t) (state_of store.entry.limit base code.now regs store.entry.bytes.now)) }
 {
     let Some(h) = regs.cur else {
         return regs.ends(Stop::Broken);
@@ -115,10 +115,10 @@ pub fn branch(store: &Store, base: usize, code: &[u8], regs: Regs, t: u8) -> Res
 }
 
 // POP: the top of the pre-term stack becomes the current node.
-pub fn pop(store: &Store, base: usize, code: &[u8], regs: Regs) -> Result<Regs, Ended>
-    requires space { Space store.now.limit base store.now.bytes.now }
+pub fn pop(store: View, base: usize, code: &[u8], regs: Regs) -> Result<Regs, Ended>
+    requires space { Space store.limit base store.bytes.now }
     requires fine { Fine regs }
-    ensures { Went store.now.limit base code.now regs store.now.bytes.now store.now.bytes.now result (λ p. run_on p c.pop (state_of store.now.limit base code.now regs store.now.bytes.now)) }
+    ensures { Went store.entry.limit base code.now regs store.entry.bytes.now store.entry.bytes.now result (λ p. run_on p c.pop (state_of store.entry.limit base code.now regs store.entry.bytes.now)) }
 {
     if regs.terms == 0 {
         return regs.ends(Stop::Broken);
@@ -132,10 +132,10 @@ pub fn pop(store: &Store, base: usize, code: &[u8], regs: Regs) -> Result<Regs, 
 }
 
 // REPLACE: the call on the stack's top becomes a forward to the current node.
-pub fn replace(store: &Store, base: usize, code: &[u8], regs: Regs) -> Result<Regs, Ended>
-    requires space { Space store.now.limit base store.now.bytes.now }
+pub fn replace(store: View, base: usize, code: &[u8], regs: Regs) -> Result<Regs, Ended>
+    requires space { Space store.limit base store.bytes.now }
     requires fine { Fine regs }
-    ensures { Went store.now.limit base code.now regs store.now.bytes.now store.now.bytes.now result (λ p. run_on p c.replace (state_of store.now.limit base code.now regs store.now.bytes.now)) }
+    ensures { Went store.entry.limit base code.now regs store.entry.bytes.now store.entry.bytes.now result (λ p. run_on p c.replace (state_of store.entry.limit base code.now regs store.entry.bytes.now)) }
 {
     if regs.top == 0 {
         return regs.ends(Stop::Broken);
@@ -148,10 +148,10 @@ pub fn replace(store: &Store, base: usize, code: &[u8], regs: Regs) -> Result<Re
 }
 
 // NARROW: the current node, a variable, has the pre-term stack's terms as its alternatives.
-pub fn narrow(store: &Store, base: usize, code: &[u8], regs: Regs) -> Result<Regs, Ended>
-    requires space { Space store.now.limit base store.now.bytes.now }
+pub fn narrow(store: View, base: usize, code: &[u8], regs: Regs) -> Result<Regs, Ended>
+    requires space { Space store.limit base store.bytes.now }
     requires fine { Fine regs }
-    ensures { Went store.now.limit base code.now regs store.now.bytes.now store.now.bytes.now result (λ p. run_on p c.narrow (state_of store.now.limit base code.now regs store.now.bytes.now)) }
+    ensures { Went store.entry.limit base code.now regs store.entry.bytes.now store.entry.bytes.now result (λ p. run_on p c.narrow (state_of store.entry.limit base code.now regs store.entry.bytes.now)) }
 {
     let Some(h) = regs.cur else {
         return regs.ends(Stop::Broken);
@@ -161,10 +161,10 @@ pub fn narrow(store: &Store, base: usize, code: &[u8], regs: Regs) -> Result<Reg
 }
 
 // CHOICE: the call on the stack's top has the pre-term stack's terms as its alternatives.
-pub fn choice(store: &Store, base: usize, code: &[u8], regs: Regs) -> Result<Regs, Ended>
-    requires space { Space store.now.limit base store.now.bytes.now }
+pub fn choice(store: View, base: usize, code: &[u8], regs: Regs) -> Result<Regs, Ended>
+    requires space { Space store.limit base store.bytes.now }
     requires fine { Fine regs }
-    ensures { Went store.now.limit base code.now regs store.now.bytes.now store.now.bytes.now result (λ p. run_on p c.choice (state_of store.now.limit base code.now regs store.now.bytes.now)) }
+    ensures { Went store.entry.limit base code.now regs store.entry.bytes.now store.entry.bytes.now result (λ p. run_on p c.choice (state_of store.entry.limit base code.now regs store.entry.bytes.now)) }
 {
     if regs.top == 0 {
         return regs.ends(Stop::Broken);

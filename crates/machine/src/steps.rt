@@ -24,18 +24,18 @@ pub fn run_op(
     ensures went { Went store.old.limit base code.now regs store.old.bytes.now store.new.bytes.now result (λ p. run_on p (op_of code.now at op) (state_of store.old.limit base code.now regs store.old.bytes.now)) }
 {
     match op {
-        Op::Load(n) => ops::load(store, base, code, regs, at + 2, n),
-        Op::Branch(t) => ops::branch(store, base, code, regs, t),
+        Op::Load(n) => ops::load(store.view(), base, code, regs, at + 2, n),
+        Op::Branch(t) => ops::branch(store.view(), base, code, regs, t),
         Op::Go | Op::Wrong => regs.ends(Stop::Broken),
         Op::Push => makes::push(store, base, code, regs),
-        Op::Pop => ops::pop(store, base, code, regs),
+        Op::Pop => ops::pop(store.view(), base, code, regs),
         Op::MakeAnon => makes::make_anon(store, base, code, regs),
         Op::StoreVar(v) => makes::store_var(store, base, code, regs, v),
         Op::MakeVar(v) => makes::make_var(store, base, code, regs, v),
         Op::MakeTerm(y) => makes::make_term(store, base, code, regs, y),
-        Op::Replace => ops::replace(store, base, code, regs),
-        Op::Narrow => ops::narrow(store, base, code, regs),
-        Op::Choice => ops::choice(store, base, code, regs),
+        Op::Replace => ops::replace(store.view(), base, code, regs),
+        Op::Narrow => ops::narrow(store.view(), base, code, regs),
+        Op::Choice => ops::choice(store.view(), base, code, regs),
         Op::Fail => regs.ends(Stop::Fails),
     }
 }

@@ -1,19 +1,19 @@
 // The program's tables in the rest of the memory: starts, arities, arms.
 ghost use Rattle.std.specs.Prelude.{◌≡◌, ℕ, ◌+◌, ◌*◌, ◌<◌, ◌≤◌, length, get_or};
 ghost use Rattle.store.specs.Rows.{symbol_of};
-ghost use Rattle.store.specs.Whole.{rest};
+ghost use Rattle.store.specs.Regions.{rest_of};
 ghost use Rattle.engine.specs.Machine.{arity_of, arm_of};
 ghost use Rattle.machine.specs.Tables.{Space};
 ghost use Rattle.machine.specs.Contract.{ByTables};
 ghost use Rattle.machine.specs.View.{arm_is};
 
 use book::{ConNo, FunNo};
-use store::{Head, Store};
+use store::{Head, View};
 
 // A function's start in the code.
-pub fn start_of(store: &Store, base: usize, f: FunNo) -> usize
-    requires { Space store.now.limit base store.now.bytes.now }
-    ensures { ByTables base (rest store.now) (λ p. result ≡ get_or p.starts f.0 0) }
+pub fn start_of(store: View, base: usize, f: FunNo) -> usize
+    requires { Space store.limit base store.bytes.now }
+    ensures { ByTables base (rest_of store.entry.limit store.entry.bytes.now) (λ p. result ≡ get_or p.starts f.0 0) }
 {
     let at = base + 2 * (f.0 as usize);
     let low = store.rest(at) as usize;
@@ -22,9 +22,9 @@ pub fn start_of(store: &Store, base: usize, f: FunNo) -> usize
 }
 
 // A symbol's arity.
-pub fn arity(store: &Store, base: usize, head: Head) -> u16
-    requires { Space store.now.limit base store.now.bytes.now }
-    ensures { ByTables base (rest store.now) (λ p. result ≡ arity_of p (symbol_of head)) }
+pub fn arity(store: View, base: usize, head: Head) -> u16
+    requires { Space store.limit base store.bytes.now }
+    ensures { ByTables base (rest_of store.entry.limit store.entry.bytes.now) (λ p. result ≡ arity_of p (symbol_of head)) }
 {
     match head {
         Head::Makes(c) => store.rest(base + 768 + (c.0 as usize)),
@@ -33,9 +33,9 @@ pub fn arity(store: &Store, base: usize, head: Head) -> u16
 }
 
 // The arm of a BRANCH of type t for a constructor, if it is of that type.
-pub fn arm_of(store: &Store, base: usize, t: u8, c: ConNo) -> Option<u16>
-    requires { Space store.now.limit base store.now.bytes.now }
-    ensures { ByTables base (rest store.now) (λ p. arm_is result ≡ arm_of p t c.0) }
+pub fn arm_of(store: View, base: usize, t: u8, c: ConNo) -> Option<u16>
+    requires { Space store.limit base store.bytes.now }
+    ensures { ByTables base (rest_of store.entry.limit store.entry.bytes.now) (λ p. arm_is result ≡ arm_of p t c.0) }
 {
     let at = base + 1024 + (c.0 as usize);
     let home = store.rest(at);

@@ -80,7 +80,15 @@ rows-far k (suc n) j v s h =
     (ap (λ (l : List (List ℕ)). take k s ∷ l)
     (ap (λ (i : ℕ). rows k n (drop k (set s i v))) at ∙ rw (drop-set-add k s (j - k) v) (rows-far k n (j - k) v (drop k s) (omega (arith, mul-suc k n)))))
 
--- a write in a part of a list
+-- a part of a list, and a write outside it or in it
+pub part-below : (a n j v : ℕ) (l : List ℕ) → j < a → take n (drop a (set l j v)) ≡ take n (drop a l)
+part-below a n j v l h = rw (drop-set-lt a l j v h)
+
+pub part-above : (a n j v : ℕ) (l : List ℕ) → a + n ≤ j → take n (drop a (set l j v)) ≡ take n (drop a l)
+part-above a n j v l h =
+    let at : j ≡ a + (j - a) = omega arith in
+    ap (λ (i : ℕ). take n (drop a (set l i v))) at ∙ rw (drop-set-add a l (j - a) v, take-set-le n (drop a l) (j - a) v (omega arith))
+
 pub part_in : (a n j v : ℕ) (l : List ℕ) → j < n → take n (drop a (set l (a + j) v)) ≡ set (take n (drop a l)) j v
 part_in a n j v l h = rw (drop-set-add a l j v, take-set-lt n (drop a l) j v h)
 

@@ -88,7 +88,11 @@ module _ {L a b : ℕ} {s s' : List ℕ} (o : RestOnly L a b s s') where
   unfolding stack_of
   stack-stays t = rw o.links
 
-  -- the computations in other rows
+  -- the computation that is held, and those in other rows
+  pub held_stays : (h : Held) → held_in L s' h ≡ held_in L s h
+  unfolding held_in
+  held_stays h = rw (stack-stays h.top)
+
   pub row_before : (n i : ℕ) → n ≤ 9 → 20 * i + 10 ≤ a → row_of L s' n i ≡ row_of L s n i
   unfolding row_of
   row_before n i h h' = rw (roots-before n (20 * i) (omega arith), word-before (20 * i + 9) (omega arith), stack-stays)

@@ -12,14 +12,14 @@ use lib.ListN.{length, get_or, take, drop, length-map}
 use lib.Seq.{take-take, get_or-take}
 use borrow.Author.Tests.{lt-ltb, le-ltb}
 use Rattle.std.proofs.lemmas.Bool.{cases_lt}
-use Rattle.mem.proofs.Laws.{drop-take}
+use Rattle.mem.proofs.Laws.{drop-take, take-kept}
 use Rattle.heap.specs.Build.{up_from}
 use Rattle.heap.proofs.Laws.Numbers.{up_from-length}
 use Rattle.store.specs.Regions.{rest_of, links_of}
 use Rattle.engine.specs.Machine as m
 use Rattle.standing.specs.Part.{stacks_of}
 use Rattle.pool.specs.declared.Held.{Held}
-use Rattle.pool.specs.Ring.{Sized, chain, stack_of, roots_at, held_in, row_of, place_of, pool_of, SameLinks, RowGot, RowPut, Pushed}
+use Rattle.pool.specs.Ring.{Sized, chain, stack_of, roots_at, held_in, row_of, place_of, pool_of, SameLinks, RestOnly, RowGot, RowPut, Pushed}
 use Rattle.pool.proofs.Laws.{only_wider, row_before, row-behind}
 
 -- a place past the last one is from the first one on
@@ -173,3 +173,12 @@ pub pool-kept : (L places n head waiting : ℕ) (s s' : List ℕ) → n ≤ 9 �
 unfolding pool_of
 pool-kept L places n head waiting s s' few h l same k =
     rows_same _ _ waiting 0 (λ j a b. row_kept L places n s s' few same (place_of places head j) (place_inside places head j h (omega arith)) (λ x w. k x (stacks-have (λ j. row_of L s n (place_of places head j)) waiting 0 j x a b w)))
+
+-- so a write in the rest past the places keeps it
+pub pool-stays : (L places n head waiting a b : ℕ) (s s' : List ℕ) → n ≤ 9 → head < places → waiting ≤ places → 20 * places ≤ a → RestOnly L a b s s' → pool_of L places n head waiting s' ≡ pool_of L places n head waiting s
+pool-stays L places n head waiting a b s s' few h l f o = pool-kept L places n head waiting s s' few h l (take-kept o.rest (20 * places) f) (λ x w. ap (λ (t : List ℕ). get_or t x 0) o.links)
+
+-- and the computation that is held depends on the links of its stack's entries
+pub held_kept : (L : ℕ) (s s' : List ℕ) (h : Held) → SameLinks (links_of L s) (links_of L s') (held_in L s h).stack → held_in L s' h ≡ held_in L s h
+unfolding held_in stack_of
+held_kept L s s' h k = rw (chain-kept (suc L) (links_of L s) (links_of L s') h.top k)

@@ -5,7 +5,7 @@ use Prim.Native.Nat.{ℕ, ◌+◌, ◌-◌, ◌/◌, ◌≤◌, ◌<◌}
 use native.Mathlib.Omega.{arith}
 use native.Mathlib.Numerals.{add-one}
 use native.Mathlib.Nat.{zero-add}
-use mathlib.Core.Path.{◌≡◌, refl, ap, sym, ◌∙◌}
+use mathlib.Core.Path.{◌≡◌, refl, ap, sym, ◌∙◌, subst}
 use mathlib.Core.Bool.{Bool, true, false}
 use mathlib.Core.List.{List, ◌∷◌, ◌++◌}
 use lib.ListN.{length, take, drop, set, length-set}
@@ -19,7 +19,7 @@ use Rattle.engine.specs.Code.{four}
 use Rattle.engine.specs.Run.{result_record}
 use Rattle.heap.specs.Graph.{Graph, write_each}
 use Rattle.store.specs.Regions.{graph_of}
-use Rattle.writer.specs.Walk.{Kept, Framed, pick}
+use Rattle.writer.specs.Walk.{Reads, Kept, Framed, pick}
 use Rattle.writer.specs.Owes.{fits}
 use Rattle.writer.specs.Written.{Clean, Written, over}
 use Rattle.writer.proofs.Turning.{kept_then}
@@ -75,6 +75,9 @@ result-none {L} {room} {at} {turn} {terms} {s} {s'} {out} h k c = record {
 -- after the size is known, before the terms are written
 pub clean-framed : {L : ℕ} {s s' : List ℕ} → Framed L s s' → Clean L s → Clean L s'
 clean-framed f c = f.places ∙ c
+
+pub reads-framed : {L : ℕ} {s s' ks : List ℕ} → Framed L s s' → Reads (graph_of L s) ks → Reads (graph_of L s') ks
+reads-framed {L} {s} {s'} {ks} f r = subst (λ (g : Graph). Reads g ks) (sym f.kept.graph) r
 
 pub terms-framed : {L : ℕ} {s s' : List ℕ} (ks : List ℕ) → Framed L s s' → write_each L (graph_of L s') ks ≡ write_each L (graph_of L s) ks
 terms-framed {L} ks f = ap (λ (g : Graph). write_each L g ks) f.kept.graph

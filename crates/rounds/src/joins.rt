@@ -24,7 +24,7 @@ pub fn push_all(
 {
     let base = 20 * places;
     for i in 0..count {
-        let roots = pool::get_scratch(store, base, n, i);
+        let roots = pool::get_scratch(store.view(), base, n, i);
         pool::push(store, places, n, head, waiting + i, Held { roots, top: 0 });
     }
 }

@@ -6,7 +6,7 @@ use native.Mathlib.Omega.{arith}
 use mathlib.Core.Path.{◌≡◌, refl, ap, sym, ◌∙◌, subst}
 use mathlib.Core.Logic.{◌⊎◌, inl, inr}
 use mathlib.Core.List.Memᴰ
-use mathlib.Core.List.{List, ◌∷◌, ◌++◌, Memᴰ}
+use mathlib.Core.List.{List, [], ◌∷◌, ◌++◌, Memᴰ}
 use lib.ListN.{length, take}
 use lib.Seq.{take-take}
 use Rattle.book.specs.Syntax.{Book}
@@ -53,6 +53,13 @@ module _ (book : Book) (B : FineBook book) (l : e.Limits) where
     where
       go : (ks : List m.Kept) (own : List ℕ) → Pool μ ks (c ∷ cs) own → Sounds book B ks → Room l μ ks κ → Here book B l (e.moment ks κ out) μ c cs κ out
       go ks own (join {k = k} {ks = ks'} {own = own'} S p a) (s, ss) R = record { k = k; ks = ks'; is = refl; own = own'; stands = S; others = p; apart = a; sound = s; sounds = ss; room = R }
+
+  -- an empty pool is the definition's too
+  pub none-waits : (x : e.Moment m.Kept) (μ : Store) (κ : Counts) (out : List ℕ) → StandsFor book B l x (store_moment μ [] κ out) → x ≡ e.moment [] κ out
+  none-waits (e.moment ks κ' out') μ κ out (stands-for Q ss R) = go ks Q.own Q.pool
+    where
+      go : (ks : List m.Kept) (own : List ℕ) → Pool μ ks [] own → e.moment ks κ out ≡ e.moment [] κ out
+      go ks own empty = refl
 
 stacks-owned : {μ : Store} {ks : List m.Kept} {cs : List m.Held} {own : List ℕ} → Pool μ ks cs own → (x : ℕ) → Memᴰ x (stacks_of cs) → Memᴰ x own
 stacks-owned empty x w = w

@@ -130,9 +130,13 @@ pub does-fit : (b : List ℕ) (room : ℕ) (s s' code code' : List ℕ) (r : Res
 unfolding CompiledIs
 does-fit b room s s' code code' r n x q = subst (CompiledIs b room s s' code code') q x
 
-set_long : (b : List ℕ) (l : e.Limits) (work t code code' : List ℕ) (n : ℕ) → IsTooLong b l.code (mid_of (tables_at l) (length work - tables_at l) work) t code code' n → OverRoom b l work (ending work (tables_at l) t) code code' n
+pub set_long : (b : List ℕ) (l : e.Limits) (work t code code' : List ℕ) (n : ℕ) → IsTooLong b l.code (mid_of (tables_at l) (length work - tables_at l) work) t code code' n → OverRoom b l work (ending work (tables_at l) t) code code' n
 set_long b l work t code code' n y =
     record { book = y.book; end = y.end; is = y.is; long = y.long; over = y.over; work_stays = ap (ending work (tables_at l)) y.tables-kept ∙ put_same (tables_at l) (length work - tables_at l) work; code_stays = y.code-kept }
+
+pub set-fault : (b : List ℕ) (l : e.Limits) (work work' s t code code' : List ℕ) (r : Result ℕ Refused) (f : Fault) → CompiledIs b l.code s t code code' r → r ≡ Err (refused.Fault f) → SettingIs b l work work' code code' (Err (refused.Fault f))
+unfolding CompiledIs SettingIs
+set-fault b l work work' s t code code' r f x q = (subst (CompiledIs b l.code s t code code') q x).0
 
 -- a refusal of the compiler, handed on as it is
 pub set-refused : (b : List ℕ) (l : e.Limits) (work t code code' : List ℕ) (r : Result ℕ Refused) (f : Refused) → CompiledIs b l.code (mid_of (tables_at l) (length work - tables_at l) work) t code code' r → r ≡ Err f

@@ -1,10 +1,11 @@
 -- Limits and lent memory: the tests as facts on numbers.
--- Here, in order: the work memory asked; what each test says; lent memory that is long enough; both tests.
+-- Here, in order: the work memory asked; what each test says; what shows it; what refutes it; both tests.
 -- Assumes nothing.
 use Prim.Native.Nat.{◌+◌, ◌*◌, ◌≤◌}
 use native.Mathlib.Omega.{arith}
 use mathlib.Core.Path.{◌≡◌, refl}
-use mathlib.Core.Bool.{Bool, true, ◌&&◌}
+use mathlib.Core.Bool.{Bool, true, false, ◌&&◌}
+use borrow.Author.Tests.{le-leb}
 use Rattle.engine.specs.Run.{Limits, Lent, in_range, work_size, lent_fits}
 
 -- the work memory asked, as a number
@@ -43,9 +44,27 @@ pub lent-facts : (l : Limits) (m : Lent) → lent_fits l m ≡ true → LentFits
 unfolding lent_fits
 lent-facts l m t = record { work = grind arith; code = grind arith; results = grind arith }
 
+pub range-yes : (l : Limits) → InRange l → true ≡ in_range l
+unfolding in_range
+range-yes l f = rw (le-leb _ _ f.nodes.0, le-leb _ _ f.nodes.1, le-leb _ _ f.pool.0, le-leb _ _ f.pool.1, le-leb _ _ f.budget, le-leb _ _ f.results, le-leb _ _ f.code)
+
 pub lent-yes : (l : Limits) (m : Lent) → LentFits l m → true ≡ lent_fits l m
 unfolding lent_fits
 lent-yes l m f = grind arith
+
+pub range-no : (l : Limits) → (InRange l → ⊥) → false ≡ in_range l
+range-no l n = go (in_range l) refl
+  where
+    go : (b : Bool) → in_range l ≡ b → false ≡ b
+    go true t = absurd (n (range-facts l t))
+    go false t = refl
+
+pub lent-no : (l : Limits) (m : Lent) → (LentFits l m → ⊥) → false ≡ lent_fits l m
+lent-no l m n = go (lent_fits l m) refl
+  where
+    go : (b : Bool) → lent_fits l m ≡ b → false ≡ b
+    go true t = absurd (n (lent-facts l m t))
+    go false t = refl
 
 -- both tests
 pub fit-second : (a b c : Bool) → a ≡ true → c ≡ b → c ≡ (a && b)

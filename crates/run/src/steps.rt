@@ -134,7 +134,7 @@ pub fn step(
         bytes: work,
         limit: l.nodes,
     };
-    let held = pool::front(&store, l.pool, n, st.head);
+    let held = pool::front(store.view(), l.pool, n, st.head);
     forwards::shorten(&mut store, held.top);
     let t = turns::take_turn(&mut store, 20 * l.pool, code, st.made, held);
     let then = taken(l, st);

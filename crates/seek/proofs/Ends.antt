@@ -19,6 +19,7 @@ use Rattle.store.specs.declared.NodeNo.{NodeNo}
 use Rattle.store.specs.Regions.{graph_of, marks_of, links_of, Memory}
 use Rattle.store.proofs.Laws.{length-graph}
 use Rattle.store.proofs.Writes.{length-marks, length-links}
+use Rattle.seek.specs.Walkable.{Walkable}
 use Rattle.seek.specs.Path.{To, Shut, Closed, Open, Trail, lowest, Place}
 use Rattle.seek.specs.Search.{IsQuiet, IsCell, IsCall, Up, Down, Leaves, Walks, Reached, Went, TopAt, Held, Resumable, Sought}
 use Rattle.seek.specs.declared.Stopped.{Stopped}
@@ -51,8 +52,18 @@ module _ (L r : ℕ) (s : List ℕ) (G : Resumable L r s) where
   way : To G.made g (follow g r) r
   way = to_made G.ground G.ground.handle
 
+  pub root-walk : Walkable g r
+  root-walk = record { own = G.own; roots = G.roots; part = G.ground.part; handle = G.ground.handle }
+
   pub root_in : r < L
   root_in = let a = G.ground.part.inside r G.ground.handle in let l = length-graph L s in omega arith
+
+  leaves_none : Leaves L G.made G.own s s
+  leaves_none = record { graph = refl; places = refl; rest = refl; long = refl; marks = λ x o. refl; links = λ x o. refl; finished = λ x e. e; closed = G.closed }
+
+  -- nothing is written
+  pub sought-none : Sought L G.made G.own r s s
+  sought-none = record { leaves = leaves_none; resumes = G.resumes }
 
   pub quiet_none : IsQuiet g (marks_of L s) r → none ≡ first_call L g r
   quiet_none q = sym (shut_none G.closed L (quiet-shut G.ground G.ground.handle q))

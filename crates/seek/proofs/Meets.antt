@@ -29,13 +29,13 @@ unfolding look
 read g h n e = ap (node g) (sym e)
 
 module _ (g : Graph) (marks : List ℕ) (h n : ℕ) (e : n ≡ follow g h) where
-  met-var : Var ≡ seen (node g n) → IsQuiet g marks h
+  pub met-var : Var ≡ seen (node g n) → IsQuiet g marks h
   met-var q = record { is = inl (read g h n e ∙ seen-var (node g n) q) }
 
   pub met-cell : (y : ConNo) (k : ℕ) → Con y k ≡ seen (node g n) → (mark : ℕ) → mark ≡ get_or marks n 0 → mark ≢ 2 → IsCell g marks h n
   met-cell y k q mark u z = record { at = e; name = y.0; is = subst (λ (x : Node). x ≡ cell (con y.0) (args x)) (sym (read g h n e)) (seen-con (node g n) y k q).0; unfinished = λ w. z (u ∙ w) }
 
-  met-fwd : (t : NodeNo) → Walkable g h → Fwd t ≡ seen (node g n) → IsQuiet g marks h
+  pub met-fwd : (t : NodeNo) → Walkable g h → Fwd t ≡ seen (node g n) → IsQuiet g marks h
   met-fwd t K q = absurd (rw (read g h n e ∙ seen-fwd (node g n) t q) at (K.part.real h K.handle))
 
   -- what is no cell

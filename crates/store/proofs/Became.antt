@@ -9,11 +9,11 @@ use Rattle.store.proofs.Writes.{did_then}
 
 -- nothing was done
 pub loan_same : {a : Store} → SameLoan a a
-loan_same = record { limit = refl; lent = refl }
+loan_same = record { limit = refl; lent = refl; long = refl }
 
 -- two steps
 pub loan_then : {a b c : Store} → SameLoan a b → SameLoan b c → SameLoan a c
-loan_then d e = record { limit = e.limit ∙ d.limit; lent = e.lent ∙ d.lent }
+loan_then d e = record { limit = e.limit ∙ d.limit; lent = e.lent ∙ d.lent; long = e.long ∙ d.long }
 
 -- what a store became, by the limit that an older one has
 pub did_at : {L : ℕ} {old new : Store} {f : Memory → Memory} → old.limit ≡ L → Became old new f → Did L old.bytes.now new.bytes.now f

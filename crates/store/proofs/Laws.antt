@@ -51,7 +51,7 @@ length-args : (L i : ℕ) (s : List ℕ) → i < L → 16 * L ≤ length (words 
 length-args L i s h room = simp (length-take, length-drop) (omega arith)
 
 -- what is seen, by the words
-unfoldable seen_of : ℕ → ℕ → ℕ → ℕ → Seen
+unfoldable pub seen_of : ℕ → ℕ → ℕ → ℕ → Seen
 seen_of zero y z t = Var
 seen_of (suc zero) y z t = Con (record { 0 = y }) z
 seen_of (suc (suc zero)) y z t = Call (record { 0 = y }) z
@@ -64,11 +64,11 @@ look-kind (suc zero) y hs t = refl
 look-kind (suc (suc zero)) y hs t = refl
 look-kind (suc (suc (suc k))) y hs t = refl
 
-look-words : (L i h : ℕ) (s : List ℕ) → i < L → 16 * L ≤ length (words s) → h ≡ get_or (words s) (10 * i) 0
+pub look-words : (L i h : ℕ) (s : List ℕ) → i < L → 16 * L ≤ length (words s) → h ≡ get_or (words s) (10 * i) 0
     → seen (node (graph_of L s) i) ≡ seen_of (h / 256) (h % 256) (get_or (words s) (10 * i + 1) 0 % 9) (get_or (words s) (10 * i + 2) 0)
 look-words L i h s lt room e = rw (node-words L i s lt, look-kind, length-args L i s lt room, e)
 
-seen-rest : (k y z t : ℕ) → (k ≡ 0 → ⊥) → (k ≡ 1 → ⊥) → (k ≡ 2 → ⊥) → seen_of k y z t ≡ Fwd (record { 0 = t })
+pub seen-rest : (k y z t : ℕ) → (k ≡ 0 → ⊥) → (k ≡ 1 → ⊥) → (k ≡ 2 → ⊥) → seen_of k y z t ≡ Fwd (record { 0 = t })
 unfolding seen_of
 seen-rest zero y z t a b c = absurd (a refl)
 seen-rest (suc zero) y z t a b c = absurd (b refl)

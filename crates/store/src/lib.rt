@@ -11,7 +11,7 @@ use book::{ConNo, FunNo};
 
 mod whole;
 
-pub use whole::Store;
+pub use whole::{Store, View};
 
 // A node's number.
 #[derive(Clone, Copy, PartialEq, Eq)]

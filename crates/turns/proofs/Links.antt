@@ -1,16 +1,20 @@
--- Stacks as chains of links: an entry put on top, chains that stay, the same stack in the pool's and in the machine's words.
--- Here, in order: chains; an entry on top.
+-- Stacks as chains of links: an entry put on top, chains that stay, the same stack in the pool's and in the machine's words; tables that stay.
+-- Here, in order: chains; an entry on top; the tables.
 -- Assumes nothing.
-use Prim.Native.Nat.{ℕ, zero, suc, ◌*◌, ◌≤◌, ◌<◌}
+use Prim.Native.Nat.{ℕ, zero, suc, ◌+◌, ◌*◌, ◌≤◌, ◌<◌}
 use native.Mathlib.Omega.{arith}
 use native.Mathlib.Nat.{le_of_suc-le-suc}
 use mathlib.Core.Path.{◌≡◌, refl, sym, ap, ◌∙◌, subst}
 use mathlib.Core.List.{List, [], ◌∷◌, Memᴰ}
-use lib.ListN.{length, get_or, set}
-use lib.Seq.{get_or-set_same, get_or-set_other}
+use mathlib.Core.Option.{Option, none, some}
+use lib.ListN.{length, get_or, get_elem?, take, set}
+use lib.Seq.{get_or-set_same, get_or-set_other, get_or-take}
 use Rattle.mem.specs.Words.{words}
+use Rattle.engine.specs.Compile.{Program}
+use Rattle.engine.specs.Machine.{homes}
 use Rattle.store.specs.Regions.{Memory, links_of, Did, set_link}
 use Rattle.store.proofs.Writes.{length-links}
+use Rattle.machine.specs.Tables.{Has, Home}
 use Rattle.machine.specs.View as v
 use Rattle.pool.specs.Ring as p
 
@@ -65,3 +69,21 @@ stack_push L s s' h t room lt d off few =
     let off' : ¬ (Memᴰ h (v.chain L l t)) = λ w. off (subst (Memᴰ h) short w) in
     let top : get_or (set l h t) h 0 ≡ t = get_or-set_same l h t 0 (let n = length-links L s room in omega arith) in
     ap (λ (r : List ℕ). v.chain (suc L) r (suc h)) e ∙ ap (λ (j : ℕ). h ∷ v.chain L (set l h t) j) top ∙ ap (λ (r : List ℕ). h ∷ r) (chain-off L l t h t off' ∙ short)
+
+-- tables that stay
+module _ (q : Program) (base : ℕ) (r r' : List ℕ) (e : take (base + 2440) r' ≡ take (base + 2440) r) where
+  word : (j : ℕ) → j < base + 2440 → get_or r' j 0 ≡ get_or r j 0
+  word j h = sym (get_or-take {A = ℕ} (base + 2440) r' j 0 h) ∙ ap (λ (l : List ℕ). get_or l j 0) e ∙ get_or-take {A = ℕ} (base + 2440) r j 0 h
+
+  home-kept : (o : Option (ℕ × ℕ)) (t t' j j' : ℕ) → t' ≡ t → j' ≡ j → Home o t j → Home o t' j'
+  home-kept none t t' j j' a b h = a ∙ h
+  home-kept (some x) t t' j j' a b h = (a ∙ h.0, b ∙ h.1)
+
+  pub has_kept : Has q base r → Has q base r'
+  has_kept H = record {
+    start = λ f h. ap (λ (x : ℕ). x + 65536 * get_or r' (base + 2 * f + 1) 0) (word (base + 2 * f) (omega arith)) ∙ ap (λ (x : ℕ). get_or r (base + 2 * f) 0 + 65536 * x) (word (base + 2 * f + 1) (omega arith)) ∙ H.start f h;
+    funs = λ f h. word (base + 512 + f) (omega arith) ∙ H.funs f h;
+    cons = λ c h. word (base + 768 + c) (omega arith) ∙ H.cons c h;
+    home = λ c h. home-kept (get_elem? (homes 0 q.types) c) (get_or r (base + 1024 + c) 0) (get_or r' (base + 1024 + c) 0) (get_or r (base + 1280 + c) 0) (get_or r' (base + 1280 + c) 0) (word (base + 1024 + c) (omega arith)) (word (base + 1280 + c) (omega arith)) (H.home c h);
+    small = H.small;
+  }

@@ -18,7 +18,7 @@ pub fn begin(store: &mut Store, made: usize, held: Held) -> Option<u16>
     ensures loan { SameLoan store.old store.new }
     ensures begun { Begun store.old.limit made held store.old.bytes.now store.new.bytes.now result }
 {
-    let top = machine::calls::settle(store, held.top);
+    let top = machine::calls::settle(store.view(), held.top);
     if top > 0 {
         return Some(top);
     }

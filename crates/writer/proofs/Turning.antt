@@ -13,7 +13,7 @@ use Rattle.book.specs.declared.ConNo.{ConNo}
 use Rattle.mem.specs.Words.{words}
 use Rattle.heap.specs.Graph.{Graph, Node, cell, var, fwd, node, follow, look, args}
 use Rattle.store.specs.Rows.{seen}
-use Rattle.store.specs.Regions.{graph_of, frames_of, Memory, Did, with_frames, set_frame, set_next, Frame, frame_at, stack}
+use Rattle.store.specs.Regions.{Room, graph_of, frames_of, Memory, Did, with_frames, set_frame, set_next, Frame, frame_at, stack}
 use Rattle.store.specs.declared.Seen.{Seen}
 use Rattle.store.specs.declared.Seen.TheVariants.{Var, Con, Call, Fwd}
 use Rattle.store.proofs.Laws.{length-graph, count_of, count-seen}
@@ -29,6 +29,9 @@ kept-none L s = record { graph = refl; marks = refl; links = refl; rest = refl; 
 
 pub kept_then : {L : ℕ} {s s' s'' : List ℕ} → Kept L s s' → Kept L s' s'' → Kept L s s''
 kept_then a b = record { graph = b.graph ∙ a.graph; marks = b.marks ∙ a.marks; links = b.links ∙ a.links; rest = b.rest ∙ a.rest; long = b.long ∙ a.long }
+
+pub room-kept : {L : ℕ} {s s' : List ℕ} → Kept L s s' → Room L s → Room L s'
+room-kept k r = rw k.long r
 
 pub framed-none : (L : ℕ) (s : List ℕ) → Framed L s s
 framed-none L s = record { kept = kept-none L s; list = refl; places = refl }

@@ -9,18 +9,18 @@ returns-then-kind c = record { loan = c.put_rest.ensures.loan; stepped = fresh-s
 pub take_terms-args-requires-clause-a_bound : goal.take_terms-args-requires-clause-a_bound
 take_terms-args-requires-clause-a_bound c = let p = c.requires in
     let k = p.cell c.if-kind.false in
-    let e = arity-is _ _ _ _ _ _ c.arity_of-a.ensures c.head_of-head.ensures in
+    let e = arity-is _ _ _ _ _ _ (rw (c.view-view.ensures.limit, c.view-view.ensures.bytes) at c.arity_of-a.ensures) c.head_of-head.ensures in
     (omega arith, omega arith, omega (arith, p.deep))
 
 pub put_cell-requires-clause-count_bound : goal.put_cell-requires-clause-count_bound
 put_cell-requires-clause-count_bound c = let k = c.requires.cell c.if-kind.false in
-    let e = arity-is _ _ _ _ _ _ c.arity_of-a.ensures c.head_of-head.ensures in
+    let e = arity-is _ _ _ _ _ _ (rw (c.view-view.ensures.limit, c.view-view.ensures.bytes) at c.arity_of-a.ensures) c.head_of-head.ensures in
     omega arith
 
 pub overflow_sub-d : goal.overflow_sub-d
 overflow_sub-d c = let k = c.requires.cell c.if-kind.false in
-    let e = arity-is _ _ _ _ _ _ c.arity_of-a.ensures c.head_of-head.ensures in
+    let e = arity-is _ _ _ _ _ _ (rw (c.view-view.ensures.limit, c.view-view.ensures.bytes) at c.arity_of-a.ensures) c.head_of-head.ensures in
     omega arith
 
 pub returns : goal.returns
-returns c = let d = c.put_cell.ensures in record { loan = loan_then d.loan c.put_rest-2.ensures.loan; stepped = cell-stepped _ _ _ _ _ _ _ _ _ _ _ _ c.if-kind.false c.requires (arity-is _ _ _ _ _ _ c.arity_of-a.ensures c.head_of-head.ensures) c.head_of-head.ensures c.take_terms-args.ensures d.did (did_at d.loan.limit c.put_rest-2.ensures) }
+returns c = let d = c.put_cell.ensures in record { loan = loan_then d.loan c.put_rest-2.ensures.loan; stepped = cell-stepped _ _ _ _ _ _ _ _ _ _ _ _ c.if-kind.false c.requires (arity-is _ _ _ _ _ _ (rw (c.view-view.ensures.limit, c.view-view.ensures.bytes) at c.arity_of-a.ensures) c.head_of-head.ensures) c.head_of-head.ensures (rw (c.view-view.ensures.limit, c.view-view.ensures.bytes) at c.take_terms-args.ensures) d.did (did_at d.loan.limit c.put_rest-2.ensures) }

@@ -40,17 +40,17 @@ pub read_tree-returns-in_default : goal.read_tree-returns-in_default
 read_tree-returns-in_default t c = rw c.new-in_default.ensures (tree-odd _ _ _ _ _ c.rec_at.ensures (ap by_number c.in_ok-r.was) (other-number c.in_default.not-Split) (other-number c.in_default.not-Rule) (other-number c.in_default.not-None))
 
 pub read_trees-under-requires : goal.read_trees-under-requires
-read_trees-under-requires t c = (c.requires.lore.1, (fits-first _ _ _ _ (omega arith) c.loop-i.invariant.fit).1)
+read_trees-under-requires t c = record { can_split = (c.requires.lore.1, (fits-first _ _ _ _ (omega arith) c.loop-i.invariant.0.fit).1); are_split = c.loop-i.invariant.1 }
 
 pub read_trees-returns-in_err-at : goal.read_trees-returns-in_err-at
-read_trees-returns-in_err-at t c = let p = err_from_is_err_and c.from_residual.result c.from_residual.ensures.1 in rw (p.1, p.2) (trees-fault _ _ _ _ _ _ _ _ _ _ c.loop-i.invariant (omega arith) refl c.under.ensures.is c.read_tree.ensures c.in_err-at.was)
+read_trees-returns-in_err-at t c = let p = err_from_is_err_and c.from_residual.result c.from_residual.ensures.1 in rw (p.1, p.2) (trees-fault _ _ _ _ _ _ _ _ _ _ c.loop-i.invariant.0 (omega arith) refl c.under.ensures.0.is c.read_tree.ensures c.in_err-at.was)
 
 pub read_trees-loop-i-preserved : goal.read_trees-loop-i-preserved
 read_trees-loop-i-preserved t c =
     let i = c.loop-i.i in
     let e : c.args.first + 2 * (i + 1) ≡ c.args.first + 2 * i + 2 = omega arith in
     let f : c.args.n - (i + 1) ≡ c.args.n - i - 1 = omega arith in
-    rw (e, f) (trees-more _ _ _ _ _ _ _ _ _ _ c.loop-i.invariant (omega arith) refl c.under.ensures.is c.read_tree.ensures c.in_ok-at.was)
+    rw (e, f) (trees-more _ _ _ _ _ _ _ _ _ _ c.loop-i.invariant.0 (omega arith) refl c.under.ensures.0.is c.read_tree.ensures c.in_ok-at.was, c.under.ensures.1)
 
 pub read_trees-returns : goal.read_trees-returns
-read_trees-returns t c = trees-end _ _ _ _ _ _ _ _ _ _ c.loop-i.invariant (omega arith)
+read_trees-returns t c = trees-end _ _ _ _ _ _ _ _ _ _ c.loop-i.invariant.0 (omega arith)

@@ -1,19 +1,13 @@
-use Rattle.std.proofs.Common.{ℕ, List, ◌≤◌, ◌≡◌, refl, ap, sym, ◌∙◌, subst, length, rules, arith}
+use Rattle.std.proofs.Common.{ℕ, List, ◌≤◌, ◌≡◌, refl, ap, sym, ◌∙◌, length, rules, arith}
 use mathlib.Core.Path.{subst⁻¹}
 use lib.ListN.{replicate, length-replicate}
 use lib.Seq.{length-take-le}
 use Rattle.mem.proofs.Laws.{length-words}
-use Rattle.std.specs.Prelude.{Result, Ok}
-use Rattle.compiler.specs.declared.Refused.{Refused}
-use Rattle.compiler.specs.Tables.{CompiledIs}
+use Rattle.guards.proofs.Seen.{code_fits}
 use Rattle.guards.proofs.leaves.check_code.Goals as goal
 
 pub compile_into-r-requires : goal.compile_into-r-requires
 compile_into-r-requires g c = (search rules, omega arith, rw length-words (search rules))
-
-code_fits : (s : List ℕ) (k : ℕ) (tables tables' code code' : List ℕ) {x : Result ℕ Refused} {n : ℕ} → CompiledIs s k tables tables' code code' x → x ≡ Ok n → n ≤ k
-unfolding CompiledIs
-code_fits s k tables tables' code code' f e = (subst (CompiledIs s k tables tables' code code') e f).fits
 
 -- the code fits the array
 in_own : {k : ℕ} (own own' : List ℕ) → length own' ≡ length own → own ≡ replicate {A = ℕ} 262144 0 → k ≤ 262144 → k ≤ length own'

@@ -10,7 +10,7 @@ pub returns-then-is_some : goal.returns-then-is_some
 returns-then-is_some c = settling-call c.loop.invariant _ _ (omega arith) c.follow-at.ensures c.node_at.ensures _ c.called-call.ensures (sym c.is_some.ensures ∙ c.if-is_some.true)
 
 pub returns-then-n-store : goal.returns-then-n-store
-returns-then-n-store c = settling-past c.loop.invariant _ _ (omega arith) c.follow-at.ensures c.node_at.ensures _ c.called-call.ensures (sym c.is_some.ensures ∙ c.if-is_some.false) c.args.store.now.room.1 c.if-n-store.true
+returns-then-n-store c = settling-past c.loop.invariant _ _ (omega arith) c.follow-at.ensures c.node_at.ensures _ c.called-call.ensures (sym c.is_some.ensures ∙ c.if-is_some.false) c.args.store.room.1 c.if-n-store.true
 
 pub loop-preserved : goal.loop-preserved
 loop-preserved c = settling-next c.loop.invariant _ _ (omega arith) c.follow-at.ensures c.node_at.ensures _ _ _ c.called-call.ensures (sym c.is_some.ensures ∙ c.if-is_some.false) (omega arith) c.link-t.ensures

@@ -7,11 +7,11 @@ use Rattle.machine.proofs.steps.run_op.Goals as goal
 
 pub returns-in-Load : goal.returns-in-Load
 unfolding op_of
-returns-in-Load c = record { loan = loan_same; went = as-op c.args.at c.in-Load.is c.load.ensures }
+returns-in-Load c = record { loan = loan_same; went = as-op c.args.at c.in-Load.is (rw (c.view.ensures.limit, c.view.ensures.bytes) at c.load.ensures) }
 
 pub returns-in-Branch : goal.returns-in-Branch
 unfolding op_of
-returns-in-Branch c = record { loan = loan_same; went = as-op c.args.at c.in-Branch.is c.branch-store.ensures }
+returns-in-Branch c = record { loan = loan_same; went = as-op c.args.at c.in-Branch.is (rw (c.view-in-Branch.ensures.limit, c.view-in-Branch.ensures.bytes) at c.branch-view.ensures) }
 
 pub returns-in-Go : goal.returns-in-Go
 unfolding op_of
@@ -23,7 +23,7 @@ returns-in-Push c = record { loan = c.push.ensures.loan; went = as-op c.args.at 
 
 pub returns-in-Pop : goal.returns-in-Pop
 unfolding op_of
-returns-in-Pop c = record { loan = loan_same; went = as-op c.args.at c.in-Pop.is c.pop.ensures }
+returns-in-Pop c = record { loan = loan_same; went = as-op c.args.at c.in-Pop.is (rw (c.view-in-Pop.ensures.limit, c.view-in-Pop.ensures.bytes) at c.pop.ensures) }
 
 pub returns-in-MakeAnon : goal.returns-in-MakeAnon
 unfolding op_of
@@ -43,15 +43,15 @@ returns-in-MakeTerm c = record { loan = c.make_term.ensures.loan; went = as-op c
 
 pub returns-in-Replace : goal.returns-in-Replace
 unfolding op_of
-returns-in-Replace c = record { loan = loan_same; went = as-op c.args.at c.in-Replace.is c.replace.ensures }
+returns-in-Replace c = record { loan = loan_same; went = as-op c.args.at c.in-Replace.is (rw (c.view-in-Replace.ensures.limit, c.view-in-Replace.ensures.bytes) at c.replace.ensures) }
 
 pub returns-in-Narrow : goal.returns-in-Narrow
 unfolding op_of
-returns-in-Narrow c = record { loan = loan_same; went = as-op c.args.at c.in-Narrow.is c.narrow.ensures }
+returns-in-Narrow c = record { loan = loan_same; went = as-op c.args.at c.in-Narrow.is (rw (c.view-in-Narrow.ensures.limit, c.view-in-Narrow.ensures.bytes) at c.narrow.ensures) }
 
 pub returns-in-Choice : goal.returns-in-Choice
 unfolding op_of
-returns-in-Choice c = record { loan = loan_same; went = as-op c.args.at c.in-Choice.is c.choice.ensures }
+returns-in-Choice c = record { loan = loan_same; went = as-op c.args.at c.in-Choice.is (rw (c.view-in-Choice.ensures.limit, c.view-in-Choice.ensures.bytes) at c.choice.ensures) }
 
 pub returns-in-Fail : goal.returns-in-Fail
 unfolding op_of

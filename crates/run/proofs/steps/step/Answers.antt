@@ -10,7 +10,7 @@ use Rattle.run.proofs.steps.step.Goals as goal
 use Rattle.run.proofs.steps.step.Goals.{After-shorten}
 
 ready : (c : After-shorten) → Readied (limits_of c.args.l) c.args.n c.args.code.now c.args.st c.args.work.now c.args.results.now c.front-held.result c.shorten.new.store.bytes.now
-ready c = readied _ _ _ _ _ _ _ _ c.requires.bounded (omega (arith, c.if-st-eq0.false)) c.front-held.ensures c.shorten.ensures.did (omega (arith, c.if-l-st.false)) c.requires.runs
+ready c = readied _ _ _ _ _ _ _ _ c.requires.bounded (omega (arith, c.if-st-eq0.false)) (rw (c.view.ensures.limit, c.view.ensures.bytes) at c.front-held.ensures) c.shorten.ensures.did (omega (arith, c.if-l-st.false)) c.requires.runs
 
 pub returns-then-st-eq0 : goal.returns-then-st-eq0
 returns-then-st-eq0 c = at-empty _ _ _ _ _ _ c.requires.bounded c.requires.runs c.if-st-eq0.true

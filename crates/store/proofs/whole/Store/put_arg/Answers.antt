@@ -1,3 +1,4 @@
+use Rattle.std.proofs.Common.{rules}
 use mathlib.Core.Path.{refl}
 use native.Mathlib.Omega.{arith}
 use Rattle.store.proofs.Laws.{arg-word}
@@ -8,4 +9,4 @@ pub put-requires : goal.put-requires
 put-requires c = omega (arith, (arg-word _ _ _ _ c.requires.n_lt_limit c.args.self.now.room.1 c.requires.j_in_bounds).1)
 
 pub returns : goal.returns
-returns c = record { loan = record { limit = refl; lent = refl }; did = did-arg _ _ _ _ _ _ c.requires.n_lt_limit c.args.self.now.room.1 c.requires.j_in_bounds c.put.ensures }
+returns c = record { loan = record { limit = refl; lent = refl; long = search rules }; did = did-arg _ _ _ _ _ _ c.requires.n_lt_limit c.args.self.now.room.1 c.requires.j_in_bounds c.put.ensures }

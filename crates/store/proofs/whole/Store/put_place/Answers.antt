@@ -1,6 +1,7 @@
+use Rattle.std.proofs.Common.{rules}
 use mathlib.Core.Path.{refl}
 use Rattle.store.proofs.Writes.{did-place}
 use Rattle.store.proofs.whole.Store.put_place.Goals as goal
 
 pub returns : goal.returns
-returns c = record { loan = record { limit = refl; lent = refl }; did = did-place _ _ _ _ _ c.requires c.put.ensures }
+returns c = record { loan = record { limit = refl; lent = refl; long = search rules }; did = did-place _ _ _ _ _ c.requires c.put.ensures }
